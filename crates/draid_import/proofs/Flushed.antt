@@ -19,7 +19,7 @@ use Rattle.draid_import.specs.Checking.{CheckIsBad, HoldsCheck, check_held}
 use Rattle.draid_import.specs.Faulty.{AreReadApart, HoldsNoGroup, OneIsUnread, RecordIsBad, TellsBody}
 use Rattle.draid_import.specs.Findings.{FindsPool}
 use Rattle.draid_import.specs.Found.{OpensAllOver, SameButFlushed}
-use Rattle.draid_import.proofs.ImportCheck.{bad_by, checked_by}
+use Rattle.draid_import.proofs.ImportCheck.{bad_by, beside_by}
 use Rattle.draid_pool.proofs.Lists.{ext}
 
 -- the bytes of an area are the same, flushed or not
@@ -102,8 +102,7 @@ module _ {R A : Type 0} (rack : racks.Ghosts R) (area : areas.Ghosts A) (x y : H
           reopened = r.reopened;
           over = subst (λ (h : Option Held). OpensAllOver rack area (limit_of (layout_of uber)) (group_of (kept_of uber)) (next_leaf_of uber) h leaves counts f.shards) (taken_same x y same) r.over;
           together = r.together;
-          blocks = r.blocks;
-          checked = checked_by (HoldsCheck (group_of (kept_of uber)) (Some y)) (HoldsCheck (group_of (kept_of uber)) (Some x)) (check_before (group_of (kept_of uber))) f.shards r.checked;
+          blocks = beside_by (HoldsCheck (group_of (kept_of uber)) (Some y)) (HoldsCheck (group_of (kept_of uber)) (Some x)) (check_before (group_of (kept_of uber))) f.shards (group_of (kept_of uber)) 0 f.newest f.seq uber r.blocks;
         };
         group_is = f.group_is;
         name_is = f.name_is;

@@ -47,12 +47,13 @@ use Rattle.draid_uber.specs.declared.uber.Uber.{Uber}
 use Rattle.draid_uber.specs.Slots.{group_of}
 use Rattle.draid_uber.specs.Uber as ubers
 use Rattle.draid_uber.specs.Uber.{kept_of, layout_of, next_leaf_of, version_of, point_of}
-use Rattle.draid_found.specs.Found.{AllLive, AreFound, AreReady}
+use Rattle.draid_found.specs.Found.{AllLive, AreReady}
+use Rattle.draid_import.specs.Imported.{HasPointers, IsLastIn, Stays}
 use Rattle.draid_import.specs.Found.{AnyRecordsRose, AreFreed, AreReopened, CountsLater, FreesAt, FreesOlder, FreesIfOlder, HaveLowLeaves, IsFoundUber, IsReopened, LeavesUber, OpensOver, RecordsRose, SameButFlushed, StaysHeld}
-use Rattle.draid_pool.specs.Returning.{Returns, TakesBack}
+use Rattle.draid_pool.specs.Returning.{Returns}
 use Rattle.draid_uber.specs.Checks.{AreasTold}
 use Rattle.draid_pool.specs.Taking.{TakesFirst, TellsAreas, gives_areas, takes_areas}
-use Rattle.draid_pool.specs.Whole.{IsWhole}
+use Rattle.draid_pool.specs.Whole.{IsWhole, PointFits}
 use Rattle.draid_import.specs.declared.fault.ImportFault.{ImportFault}
 use Rattle.draid_import.specs.declared.fault.ImportFault.TheVariants as fault
 use Rattle.draid_pool.specs.declared.pool.Pool.{Pool}
@@ -60,13 +61,13 @@ use Rattle.draid_pool.proofs.Returned.{at_end, put_here as placed_here, put_ther
 use Rattle.draid_pool.proofs.Lists.{get_set_other, get_set_same, present, some_of}
 use Rattle.draid_pool.proofs.Takings.{from_first, get_before, rose_since}
 use Rattle.draid_pool.proofs.Arms.{AllShare, all_kept, have_from, leaf_kept}
-use Rattle.draid_pool.proofs.Wholes.{live_beside, one_live}
+use Rattle.draid_pool.proofs.Wholes.{live_beside, one_live, open_high}
 
 -- ---- the uberblock
 
 pub found_uber : {A : Type 0} (area : areas.Ghosts A) (uber : Uber A) → ubers.Valid area.size uber → IsSomeAnd (kept_of uber) (λ body. (version_of uber ≡ body.props.version) × (next_leaf_of uber ≡ body.next_leaf))
-    → IsSomeAnd (kept_of uber) IsUber → (point_of uber).group ≡ None → IsFoundUber area uber
-found_uber area uber valid same ranges point = by (kept_of uber) refl same ranges valid.held.kept_is
+    → IsSomeAnd (kept_of uber) IsUber → IsFoundUber area uber
+found_uber area uber valid same ranges = by (kept_of uber) refl same ranges valid.held.kept_is
   where
     by : (kept : Option UberBody) → kept_of uber ≡ kept → IsSomeAnd kept (λ body. (version_of uber ≡ body.props.version) × (next_leaf_of uber ≡ body.next_leaf)) → IsSomeAnd kept IsUber
         → MatchOption kept ⊤ (λ body. (body.spec ≡ (layout_of uber).spec) × (body.props ≡ (layout_of uber).props)) → IsFoundUber area uber
@@ -75,7 +76,7 @@ found_uber area uber valid same ranges point = by (kept_of uber) refl same range
         let group : group_of (kept_of uber) ≡ body.group = ap (λ (kept : Option UberBody). group_of kept) is in
         let above = ranges.group_above in
         let below = ranges.group_below in
-        record { valid = valid; version = same.0 ∙ ap (λ p. p.version) own.1; point = point; some = omega (arith, group, above); low = omega (arith, group, below) }
+        record { valid = valid; version = same.0 ∙ ap (λ p. p.version) own.1; some = omega (arith, group, above); low = omega (arith, group, below) }
 
 pub leaf_found : {A : Type 0} (uber : Uber A) → IsSomeAnd (kept_of uber) (λ body. (version_of uber ≡ body.props.version) × (next_leaf_of uber ≡ body.next_leaf)) → IsSomeAnd (kept_of uber) (λ body. next_leaf_of uber ≡ body.next_leaf)
 leaf_found uber both = by (kept_of uber) both
@@ -281,29 +282,29 @@ all_ready rack geometry group shards are m shard there = (let is = are.each m sh
 pub elsewhere : (new old x : Option Entry) (q n : ℕ) → new ≡ (if q == n then x else old) → (q ≡ n → ⊥) → new ≡ old
 elsewhere new old x q n is other = grind (arith, nat_tests, is, other)
 
-module _ {R A : Type 0} (rack : racks.Ghosts R) (newest : ℕ → Option Pointer) where
-  pub frees_none : (shard : Shard R A) → Valid rack shard → AllLive shard → FreesOlder rack newest shard shard
+module _ {R A : Type 0} (rack : racks.Ghosts R) (newest : ℕ → Option Pointer) (own : Option ℕ) where
+  pub frees_none : (shard : Shard R A) → Valid rack shard → AllLive shard → FreesOlder rack newest own shard shard
   frees_none shard valid live = record {
     valid = valid;
     part = refl;
     committed = refl;
     slots = same_arms shard.slots;
-    kept = λ object p is own here. here;
+    kept = λ p stays here. here;
     blocks = λ first e there. (ap (λ (s : Stage). is_block s) (live first e there), (e, there, refl));
   }
 
-  -- a block that isn't its object's newest is freed
-  pub frees_more : (old mid new : Shard R A) (p : Pointer) (group : ℕ) → FreesOlder rack newest old mid → IsLive mid p → (newest p.object ≡ Some p → ⊥) → Valid rack new → part_of new ≡ part_of mid
-      → SetsBlock mid new p (Some (staged (Freed group) p)) → FreesOlder rack newest old new
+  -- a block that doesn't stay is freed
+  pub frees_more : (old mid new : Shard R A) (p : Pointer) (group : ℕ) → FreesOlder rack newest own old mid → IsLive mid p → (Stays newest own p → ⊥) → Valid rack new → part_of new ≡ part_of mid
+      → SetsBlock mid new p (Some (staged (Freed group) p)) → FreesOlder rack newest own old new
   frees_more old mid new p group f live older valid part sets = record {
     valid = valid;
     part = part ∙ f.part;
     committed = sets.groups.committed ∙ f.committed;
     slots = arms_then old.slots mid.slots new.slots f.slots sets.slots;
-    kept = λ object q is own here.
-        (let yet = f.kept object q is own here in
+    kept = λ q stays here.
+        (let yet = f.kept q stays here in
         live_beside mid new p q (Some (staged (Freed group) p)) sets
-        (λ same. (let one : p ≡ q = one_live mid p q live yet same in older (subst (λ (x : Pointer). newest x.object ≡ Some x) (sym one) (ap newest own ∙ is)))) yet);
+        (λ same. (let one : p ≡ q = one_live mid p q live yet same in older (subst (Stays newest own) (sym one) stays))) yet);
     blocks = λ first e there. by first e (first == p.first) refl (sym (sets.entry.at first) ∙ there);
   } where
     by : (first : ℕ) (e : Entry) (b : Bool) → (first == p.first) ≡ b → (if first == p.first then Some (staged (Freed group) p) else entry_at mid.entries first) ≡ Some e
@@ -315,19 +316,19 @@ module _ {R A : Type 0} (rack : racks.Ghosts R) (newest : ℕ → Option Pointer
         (ap (λ (x : Entry). is_block x.stage) (sym is), (was.0, was.1, was.2 ∙ ap (λ (x : Entry). x.pointer) is))
     by first e false other there = f.blocks first e (ap (λ b. if b then Some (staged (Freed group) p) else entry_at mid.entries first) (sym other) ∙ there)
 
-  pub frees_step : (area : areas.Ghosts A) (old mid new : Shard R A) (p : Pointer) (floor : ℕ) → FreesOlder rack newest old mid → IsLive mid p → FreesIfOlder rack area newest p floor mid new
-      → FreesOlder rack newest old new
+  pub frees_step : (area : areas.Ghosts A) (old mid new : Shard R A) (p : Pointer) (floor : ℕ) → FreesOlder rack newest own old mid → IsLive mid p → FreesIfOlder rack area newest own p floor mid new
+      → FreesOlder rack newest own old new
   frees_step area old mid new p floor f live one = elim one.done [
-    | inl same ↦ subst (FreesOlder rack newest old) (sym same.1) f
+    | inl same ↦ subst (FreesOlder rack newest own old) (sym same.1) f
     | inr freed ↦ frees_more old mid new p freed.1.0 f live freed.0 one.valid one.part freed.1.1
   ]
 
   -- the blocks behind it are as they were
-  pub left_behind : (area : areas.Ghosts A) (mid new : Shard R A) (p : Pointer) (floor from : ℕ) → from ≤ p.first → FreesIfOlder rack area newest p floor mid new → ((first : ℕ) (e : Entry) → from ≤ first → entry_at mid.entries first ≡ Some e → e.stage ≡ Live)
+  pub left_behind : (area : areas.Ghosts A) (mid new : Shard R A) (p : Pointer) (floor from : ℕ) → from ≤ p.first → FreesIfOlder rack area newest own p floor mid new → ((first : ℕ) (e : Entry) → from ≤ first → entry_at mid.entries first ≡ Some e → e.stage ≡ Live)
       → (first : ℕ) (e : Entry) → p.first + 1 ≤ first → entry_at new.entries first ≡ Some e → e.stage ≡ Live
   left_behind area mid new p floor from low one live first e past there = live first e (omega (arith, low, past)) (by one.done)
     where
-      by : ((newest p.object ≡ Some p) × (new ≡ mid)) ⊎ ((newest p.object ≡ Some p → ⊥) × ((group : ℕ) × SetsBlock mid new p (Some (staged (Freed group) p)) × FreesAt rack area p floor group mid new))
+      by : (Stays newest own p × (new ≡ mid)) ⊎ ((Stays newest own p → ⊥) × ((group : ℕ) × SetsBlock mid new p (Some (staged (Freed group) p)) × FreesAt rack area p floor group mid new))
           → entry_at mid.entries first ≡ Some e
       by (inl same) = ap (λ (x : Shard R A). entry_at x.entries first) (sym same.1) ∙ there
       by (inr freed) = sym (elsewhere (entry_at new.entries first) (entry_at mid.entries first) (Some (staged (Freed freed.1.0) p)) first p.first (freed.1.1.entry.at first) (λ same. omega (arith, same, past))) ∙ there
@@ -335,26 +336,26 @@ module _ {R A : Type 0} (rack : racks.Ghosts R) (newest : ℕ → Option Pointer
   -- the blocks of metaslabs below a number
   pub record Freeing (n : ℕ) (old new : List (Shard R A)) : Type 0 where
     pub many : length new ≡ length old
-    pub done : (m : ℕ) (shard : Shard R A) → m < n → slice_get new m ≡ Some shard → (before : Shard R A) × (slice_get old m ≡ Some before) × FreesOlder rack newest before shard
+    pub done : (m : ℕ) (shard : Shard R A) → m < n → slice_get new m ≡ Some shard → (before : Shard R A) × (slice_get old m ≡ Some before) × FreesOlder rack newest own before shard
     pub left : (m : ℕ) → n ≤ m → slice_get new m ≡ slice_get old m
 
   pub freeing_none : (shards : List (Shard R A)) → Freeing 0 shards shards
   freeing_none shards = record { many = refl; done = λ m shard below there. absurd (omega (arith, below)); left = λ m past. refl }
 
-  pub freeing_more : (n : ℕ) (old mid : List (Shard R A)) (shard shard' : Shard R A) → slice_get mid n ≡ Some shard → Freeing n old mid → FreesOlder rack newest shard shard' → Freeing (n + 1) old (slice_set mid n shard')
+  pub freeing_more : (n : ℕ) (old mid : List (Shard R A)) (shard shard' : Shard R A) → slice_get mid n ≡ Some shard → Freeing n old mid → FreesOlder rack newest own shard shard' → Freeing (n + 1) old (slice_set mid n shard')
   freeing_more n old mid shard shard' there f frees = record {
     many = length-set mid n shard' ∙ f.many;
     done = λ m s below at. elim (cases_eq m n) [
       | inl same ↦
           (let here = get_set_same mid n shard shard' there in
           let is : shard' ≡ s = some_of (slice_get (slice_set mid n shard') n) shard' s here (subst (λ (k : ℕ). slice_get (slice_set mid n shard') k ≡ Some s) same at) in
-          (shard, ap (slice_get old) same ∙ (sym (f.left n (omega arith)) ∙ there), subst (FreesOlder rack newest shard) is frees))
+          (shard, ap (slice_get old) same ∙ (sym (f.left n (omega arith)) ∙ there), subst (FreesOlder rack newest own shard) is frees))
       | inr other ↦ f.done m s (omega (arith, below, other)) (sym (get_set_other mid n m shard' other) ∙ at)
     ];
     left = λ m past. get_set_other mid n m shard' (λ same. omega (arith, same, past)) ∙ f.left m (omega (arith, past));
   }
 
-  pub freeing_all : (n : ℕ) (old new : List (Shard R A)) → length old ≤ n → Freeing n old new → AreFreed rack newest old new
+  pub freeing_all : (n : ℕ) (old new : List (Shard R A)) → length old ≤ n → Freeing n old new → AreFreed rack newest own old new
   freeing_all n old new all f = record {
     many = f.many;
     each = λ m shard there. (let within = slice_get_within new m shard there in let many = f.many in f.done m shard (omega (arith, within, many, all)) there);
@@ -375,9 +376,10 @@ all_share shards together low m n a b at here =
 
 module _ {R A : Type 0} (rack : racks.Ghosts R) (area : areas.Ghosts A) where
   pub imported_whole : (pool : Pool R A) (geometry : Geometry) (old : List (Shard R A)) (newest : ℕ → Option Pointer) → IsFoundUber area pool.uber → layout_of pool.uber ≡ geometry → pool.geometry ≡ geometry
-      → AreReopened rack geometry (group_of (kept_of pool.uber)) old → AreFound old newest pool.own.seq → AreTogether old (length old) → HaveLowLeaves (next_leaf_of pool.uber) old → AreFreed rack newest old pool.metaslabs.shards.items
+      → AreReopened rack geometry (group_of (kept_of pool.uber)) old → HasPointers old newest → IsLastIn old pool.own.seq → PointFits 0 (point_of pool.uber) (get nat_eq pool.own.objects) pool.own.seq
+      → ((own : ℕ) → (point_of pool.uber).group ≡ Some own → own ≤ group_of (kept_of pool.uber)) → AreTogether old (length old) → HaveLowLeaves (next_leaf_of pool.uber) old → AreFreed rack newest (point_of pool.uber).group old pool.metaslabs.shards.items
       → ((object : ℕ) → get nat_eq pool.own.objects object ≡ newest object) → pool.own.floor ≡ group_of (kept_of pool.uber) + 1 → IsWhole rack area pool
-  imported_whole pool geometry old newest found layout used are blocks together low freed table floor = record {
+  imported_whole pool geometry old newest found layout used are pointers last fits early together low freed table floor = record {
     perms = are.perms;
     layout = subst (λ (x : Geometry). IsLayout x are.perms) (sym used) are.layout;
     many = freed.many ∙ (are.many ∙ ap (λ (x : Geometry). x.props.metaslabs) (sym used));
@@ -391,7 +393,7 @@ module _ {R A : Type 0} (rack : racks.Ghosts R) (area : areas.Ghosts A) where
           numbered = λ key h held.
               (let e = held_entry shard.entries key h held in
               let was = (frees.blocks h.first e.e e.there).1 in
-              let low = blocks.numbered m f.0 h.first was.0 f.1 was.1 in
+              let low = last.all m f.0 h.first was.0 f.1 was.1 in
               let same = ap (λ (p : Pointer). p.seq) was.2 in
               let own = ap (λ k. k.seq) e.key_is in
               omega (arith, low, same, own));
@@ -405,7 +407,7 @@ module _ {R A : Type 0} (rack : racks.Ghosts R) (area : areas.Ghosts A) where
     uber = found.valid;
     uber_layout = ap (λ g. ubers.layout_in g pool.geometry.props.version) (layout ∙ sym used);
     objects = λ object pointer there.
-        (let to = blocks.pointers object pointer (sym (table object) ∙ there) in
+        (let to = pointers object pointer (sym (table object) ∙ there) in
         let within = slice_get_within old pointer.metaslab to.shard to.there in
         let many = freed.many in
         let s = present pool.metaslabs.shards.items pointer.metaslab (omega (arith, within, many)) in
@@ -415,10 +417,17 @@ module _ {R A : Type 0} (rack : racks.Ghosts R) (area : areas.Ghosts A) where
           object_is = to.object_is;
           shard = s.0;
           there = s.1;
-          live = f.2.kept object pointer (sym (table object) ∙ there) to.object_is (subst (λ (x : Shard R A). IsLive x pointer) same to.live);
+          live = f.2.kept pointer (inl (ap newest to.object_is ∙ (sym (table object) ∙ there))) (subst (λ (x : Shard R A). IsLive x pointer) same to.live);
         });
     floor = omega (arith, floor);
     low = (let low = found.low in omega (arith, floor, low));
+    point = fits;
+    behind = λ own m shard is there.
+        (let f = freed.each m shard there in
+        let high = open_high shard.open_group shard.closing shard.committed shard.sealed f.2.valid.groups in
+        let committed = f.2.committed ∙ (are.each m f.0 f.1).committed in
+        let low = early own is in
+        omega (arith, high, committed, low));
   }
 
 -- where the shelf has a pool, its uberblock is held

@@ -8,7 +8,8 @@ use Rattle.draid_area.specs.Area.{Content, IsOfSize, OnTold}
 use Rattle.draid_area.specs.declared.Area as areas
 use Rattle.draid_rack.specs.Rack.{Shape}
 use Rattle.draid_rack.specs.declared.Rack as racks
-use Rattle.draid_record.specs.Checks.{CheckTold}
+use Rattle.std.proofs.lemmas.Bool.{cases_eq}
+use Rattle.draid_record.specs.Checks.{CheckTold, IsCheck, most_drops}
 use Rattle.draid_record.specs.declared.checks.Dropped.{Dropped}
 use Rattle.draid_record.specs.declared.fault.RecordFault.{RecordFault}
 use Rattle.draid_record.specs.declared.fault.RecordFault.TheVariants.{Bad}
@@ -18,7 +19,7 @@ use Rattle.draid_segments.specs.Segments.{Pieces}
 use Rattle.draid_shelf.specs.Kits.{ChecksTold, Held, KitCounts, OnHeld, checks_of}
 use Rattle.draid_shard.specs.declared.shard.Shard.{Shard}
 use Rattle.draid_spec.specs.declared.layout.Geometry.{Geometry}
-use Rattle.draid_uber.specs.Checks.{AreasStand, AreasTold, CheckStands, HasCheck, check_area, check_in, told_by}
+use Rattle.draid_uber.specs.Checks.{AreasStand, AreasTold, CheckStands, HasCheck as HasCheckThere, check_area, check_in, told_by}
 use Rattle.draid_uber.specs.Slots.{StandsTold, chosen_of, group_of, read_body}
 use Rattle.draid_uber.specs.Uber.{Valid, area_of, areas_of, count_of, kept_of, layout_of, next_leaf_of}
 use Rattle.draid_uber.specs.declared.checks.CheckFault.{CheckFault}
@@ -27,30 +28,46 @@ use Rattle.draid_uber.specs.declared.uber.Uber.{Uber}
 use Rattle.draid_session.specs.State.{State, limit_of}
 use Rattle.draid_pool.specs.Taking.{TakesFirst}
 use Rattle.draid_pool.proofs.Takings.{rose_since}
-use Rattle.draid_import.specs.Checking.{HoldsCheck, IsBadCheck, IsCheckFault, IsChecked, KeepsUber, NamesLack, NoCheck, OwnCheck, check_fault_of, check_held}
+use Rattle.draid_import.specs.Checking.{HoldsCheck, IsBadCheck, IsCheckFault, KeepsUber, NoCheck, OwnCheck, check_fault_of, check_held}
+use Rattle.draid_import.specs.Points.{IsFoundBeside}
 use Rattle.draid_import.specs.Faulty.{TellsBody}
 use Rattle.draid_import.specs.Found.{AreReopened, HaveLowLeaves, IsFoundUber, IsRecovered, NoRecord, OpensAllOver}
 use Rattle.draid_import.specs.Importing.{RestsThere}
 use Rattle.draid_import.specs.declared.fault.ImportFault.{ImportFault}
 use Rattle.draid_import.specs.declared.fault.ImportFault.TheVariants as fault
 use Rattle.draid_import.proofs.ImportMetaslab.{of_told}
-use Rattle.draid_import.proofs.ImportPool.{body_found, told_checks}
-use Rattle.draid_uber.specs.Points.{no_check}
-use Rattle.draid_checkpoint.specs.Check.{Point}
-use Rattle.draid_pool.specs.Ubers.{check_told}
-use Rattle.draid_pool.proofs.Pointing.{unmarked_told}
+use Rattle.draid_import.proofs.ImportPool.{RestsFoundAt, as_many_found, body_found, each_found, told_checks}
+use Rattle.std.specs.declared.alloc.Global.{Global}
+use Rattle.draid_names.specs.declared.pointer.Pointer.{Pointer}
+use Rattle.draid_machine.specs.declared.names.Held.{Held as Block}
+use Rattle.draid_objects.specs.Blocks.{sealed_at}
+use Rattle.draid_objects.specs.Marks.{Check, born_upto, check_by, marks_upto}
+use Rattle.draid_objects.specs.Stores.{HasCheck}
+use Rattle.draid_objects.proofs.Checking.{born_some}
+use Rattle.draid_found.specs.Drops.{HaveBorn, key_in}
+use Rattle.draid_session.specs.Opening.{MayFind}
+use Rattle.draid_session.specs.State.{Metaslab}
+use Rattle.draid_pool.specs.Objects.{blocks_of}
+use Rattle.draid_pool.specs.Taking.{takes_areas}
+use Rattle.draid_pool.specs.Ubers.{check_told, point_told}
+use Rattle.draid_import.specs.Imported.{OpensFound}
+use Rattle.draid_import.proofs.ImportBeside.{no_group}
+use Rattle.draid_import.proofs.ImportDrops.{Tells, among, told_check}
+use Rattle.draid_import.proofs.ImportEnd.{shard_born}
+use Rattle.draid_import.proofs.ImportFound.{later_group}
+use Rattle.draid_import.proofs.ImportPoint.{point_upto}
+use Rattle.draid_import.proofs.ImportVersion.{found_at}
 
 -- ---- the uberblock whose areas were read
 
 pub same_uber : {A : Type 0} (area : areas.Ghosts A) (uber : Uber A) → Valid area.size uber → KeepsUber area uber uber
-same_uber area uber valid = record { valid = valid; told = refl; uber = refl; kept = refl; layout = refl; version = refl; point = refl; leaf = refl; later = omega arith }
+same_uber area uber valid = record { valid = valid; told = refl; uber = refl; kept = refl; layout = refl; version = refl; leaf = refl; later = omega arith }
 
 module _ {A : Type 0} (area : areas.Ghosts A) (old new : Uber A) (k : KeepsUber area old new) where
   pub still_found : IsFoundUber area old → IsFoundUber area new
   still_found f = record {
     valid = k.valid;
     version = k.version ∙ (f.version ∙ ap (λ (g : Geometry). g.props.version) (sym k.layout));
-    point = ap (λ (p : Point). p.group) k.point ∙ f.point;
     some = subst (λ (o : Option UberBody). 1 ≤ group_of o) (sym k.kept) f.some;
     low = subst (λ (o : Option UberBody). group_of o < LAST_NUMBER) (sym k.kept) f.low;
   }
@@ -104,12 +121,20 @@ module _ {A : Type 0} (area : areas.Ghosts A) (old new : Uber A) (k : KeepsUber 
 -- ---- what is read
 
 module _ {R A : Type 0} (tells other : Result CheckTold RecordFault → Type 0) (turn : (answer : Result CheckTold RecordFault) → tells answer → other answer) (shards : List (Shard R A)) where
-  pub checked_by : IsChecked tells shards → IsChecked other shards
-  checked_by c = record { value = c.value; read = turn (Ok c.value) c.read; have = c.have }
+  pub beside_by : (group was : ℕ) (newest : ℕ → Option Pointer) (seq : ℕ) (uber : Uber A) → IsFoundBeside tells shards group was newest seq uber → IsFoundBeside other shards group was newest seq uber
+  beside_by group was newest seq uber f = record {
+    value = f.value;
+    checked = record { read = turn (Ok f.value) f.checked.read; have = f.checked.have };
+    range = f.range;
+    newest_is = f.newest_is;
+    last = f.last;
+    point = f.point;
+    fits = f.fits;
+  }
 
   pub bad_by : (place : ℕ) (kind : RecordFaultKind) → IsBadCheck tells shards place kind → IsBadCheck other shards place kind
   bad_by place kind (inl bad) = inl (turn (Err (Bad place kind)) bad)
-  bad_by place kind (inr n) = inr (record { value = n.value; read = turn (Ok n.value) n.read; i = n.i; lack = n.lack; place_is = n.place_is; kind_is = n.kind_is })
+  bad_by place kind (inr n) = inr (record { value = n.value; read = turn (Ok n.value) n.read; some = n.some; i = n.i; lack = n.lack; place_is = n.place_is; kind_is = n.kind_is })
 
 -- the fault of the check record that was read
 pub check_bad : {T : Type 0} (why : CheckFault) (f : ImportFault) → f ≡ check_fault_of why → (place : ℕ) (kind : RecordFaultKind) → IsErrOf {T = T} (Err f) (fault.Check place kind) → why ≡ check_why.Record place kind
@@ -119,6 +144,17 @@ check_bad (check_why.Record p k) f is place kind err =
     let p_is : p ≡ place = cc in
     let k_is : k ≡ kind = cc in
     λ i. check_why.Record (p_is i) (k_is i)
+
+-- a check record that names a block tells of a checkpoint
+pub lack_some : (group : ℕ) (value : CheckTold) (i : ℕ) {d : Dropped} → IsCheck group value → slice_get value.drops i ≡ Some d → 0 < value.group
+lack_some group value i {d} range there = by (cases_eq value.group 0)
+  where
+    by : (value.group ≡ 0) ⊎ (value.group ≡ 0 → ⊥) → 0 < value.group
+    by (inl is_zero) =
+        let few = subst (λ n. length value.drops ≤ most_drops n) is_zero range.few in
+        let within = slice_get_within value.drops i d there in
+        absurd (omega (arith, few, within))
+    by (inr some) = omega (arith, some)
 
 -- a refusal of it isn't that there is no pool, nor a record's fault
 pub check_some : {T : Type 0} (why : ImportFault) → IsCheckFault why → IsErrOf {T = T} (Err why) fault.NoPool → ⊥
@@ -159,10 +195,12 @@ own_holds {A} area (Some x) count uber r answer own = by x.checks refl r.some_ch
         of_told (group % 2 == 0) area.told (areas_of uber).even (areas_of uber).odd k.even k.odd (λ c. check_in group c.bytes ≡ answer) both.0 both.1 own
 
 -- so once the uberblock's areas were read
-pub checked_entry : {R A : Type 0} (area : areas.Ghosts A) (o : Option Held) (count : ℕ) (old new : Uber A) (shards : List (Shard R A)) → KeepsUber area old new → IsRecovered area o count old → IsChecked (OwnCheck area old) shards
-    → IsChecked (HoldsCheck (group_of (kept_of new)) o) shards
-checked_entry area o count old new shards k r c =
-    subst (λ (b : Option UberBody). IsChecked (HoldsCheck (group_of b) o) shards) (sym k.kept) (checked_by (OwnCheck area old) (HoldsCheck (group_of (kept_of old)) o) (own_holds area o count old r) shards c)
+pub beside_entry : {R A : Type 0} (area : areas.Ghosts A) (o : Option Held) (count : ℕ) (old new : Uber A) (shards : List (Shard R A)) (was : ℕ) (newest : ℕ → Option Pointer) (seq : ℕ) → KeepsUber area old new → IsRecovered area o count old → was ≡ 0
+    → IsFoundBeside (OwnCheck area old) shards (group_of (kept_of old)) was newest seq new → IsFoundBeside (HoldsCheck (group_of (kept_of new)) o) shards (group_of (kept_of new)) 0 newest seq new
+beside_entry area o count old new shards was newest seq k r is_zero f =
+    subst (λ n. IsFoundBeside (HoldsCheck (group_of (kept_of new)) o) shards (group_of (kept_of new)) n newest seq new) is_zero
+    (subst (λ (b : Option UberBody). IsFoundBeside (HoldsCheck (group_of b) o) shards (group_of b) was newest seq new) (sym k.kept)
+    (beside_by (OwnCheck area old) (HoldsCheck (group_of (kept_of old)) o) (own_holds area o count old r) shards (group_of (kept_of old)) was newest seq new f))
 
 pub bad_entry : {R A : Type 0} (area : areas.Ghosts A) (o : Option Held) (count : ℕ) (uber : Uber A) (shards : List (Shard R A)) (place : ℕ) (kind : RecordFaultKind) → IsRecovered area o count uber
     → IsBadCheck (OwnCheck area uber) shards place kind → IsBadCheck (HoldsCheck (group_of (kept_of uber)) o) shards place kind
@@ -193,15 +231,6 @@ ok_value v w same = cc
 pub bad_value : (p q : ℕ) (k l : RecordFaultKind) → refused (Bad p k) ≡ refused (Bad q l) → (p ≡ q) × (k ≡ l)
 bad_value p q k l same = (cc, cc)
 
--- where there is no checkpoint no block is named
-none_lacks : {R A : Type 0} (group : ℕ) (x : Held) (shards : List (Shard R A)) (place : ℕ) (kind : RecordFaultKind) → HoldsCheck group (Some x) (Ok no_check) → IsBadCheck (HoldsCheck group (Some x)) shards place kind → ⊥
-none_lacks group x shards place kind told (inl bad) = ok_bad no_check (Bad place kind) (one_told group x (Ok no_check) (Err (Bad place kind)) told bad)
-none_lacks group x shards place kind told (inr n) =
-    let same : no_check ≡ n.value = ok_value no_check n.value (one_told group x (Ok no_check) (Ok n.value) told n.read) in
-    let within = slice_get_within n.value.drops n.i n.lack.named n.lack.there in
-    let none : 0 ≡ length n.value.drops = ap (λ (v : CheckTold). length v.drops) same in
-    omega (arith, within, none)
-
 module _ {A : Type 0} (area : areas.Ghosts A) (counted : (a : A) → OnTold (area.told a) (IsOfSize (area.size a))) where
   -- what a crash may leave of an area is what it has, too
   says : (value : CheckTold) (group n : ℕ) (o : Option Content) → OnTold o (IsOfSize n) → OnTold o (CheckStands value group) → OnTold o (λ x. check_in group x.bytes ≡ Ok value)
@@ -215,23 +244,86 @@ module _ {A : Type 0} (area : areas.Ghosts A) (counted : (a : A) → OnTold (are
   own_says : (check : ℕ → CheckTold) (uber : Uber A) → 1 ≤ group_of (kept_of uber) → AreasStand check (kept_of uber) [] (told_by area.told (areas_of uber)) → OwnCheck area uber (Ok (check (group_of (kept_of uber))))
   own_says check uber some stands = by (kept_of uber) refl some stands.kept_check
     where
-      by : (kept : Option UberBody) → kept_of uber ≡ kept → 1 ≤ group_of kept → MatchOption kept ⊤ (HasCheck check (told_by area.told (areas_of uber))) → OwnCheck area uber (Ok (check (group_of (kept_of uber))))
+      by : (kept : Option UberBody) → kept_of uber ≡ kept → 1 ≤ group_of kept → MatchOption kept ⊤ (HasCheckThere check (told_by area.told (areas_of uber))) → OwnCheck area uber (Ok (check (group_of (kept_of uber))))
       by None is some has = absurd (omega (arith, some))
       by (Some body) is some has =
           let group : group_of (kept_of uber) ≡ body.group = ap (λ (o : Option UberBody). group_of o) is in
           subst (λ n. OnTold (area.told (check_area (areas_of uber) n)) (λ x. check_in n x.bytes ≡ Ok (check n))) (sym group)
           (says_own (check body.group) (body.group % 2 == 0) body.group (areas_of uber).even (areas_of uber).odd has)
 
-  -- its check record has no fault
-  pub no_check_fault : {R T : Type 0} (x : State) (pieces : ℕ → Pieces) (o : Option Held) (leaves : ℕ → Option Shape) (counts : ℕ → KitCounts) (count : ℕ) (uber : Uber A) (shards : List (Shard R A)) (f : ImportFault)
-      → RestsThere x pieces o leaves counts count → IsFoundUber area uber → IsRecovered area o count uber
-      → ((place : ℕ) (kind : RecordFaultKind) → IsErrOf {T = T} (Err f) (fault.Check place kind) → IsBadCheck (OwnCheck area uber) shards place kind) → NoCheck {T = T} (Err f)
-  no_check_fault x pieces None leaves counts count uber shards f there found r bad place kind err = absurd there.held
-  no_check_fault x pieces (Some held) leaves counts count uber shards f there found r bad place kind err =
+  -- what the check record says is what the marks do
+  pub pool_says : (x : State) (pieces : ℕ → Pieces) (held : Held) (leaves : ℕ → Option Shape) (counts : ℕ → KitCounts) (count : ℕ) (uber : Uber A)
+      → RestsThere x pieces (Some held) leaves counts count → IsFoundUber area uber → IsRecovered area (Some held) count uber → HoldsCheck (group_of (kept_of uber)) (Some held) (Ok (check_told x.store.marks (group_of (kept_of uber))))
+  pool_says x pieces held leaves counts count uber there found r =
       let at = body_found area x pieces held leaves counts count uber there found r in
-      let own = subst (λ v. OwnCheck area uber (Ok v)) (unmarked_told x.store.marks (group_of (kept_of uber)) there.held.objects.unmarked) (own_says (check_told x.store.marks) uber found.some at.b.own_areas) in
-      none_lacks (group_of (kept_of uber)) held shards place kind (own_holds area (Some held) count uber r (Ok no_check) own)
-      (bad_entry area (Some held) count uber shards place kind r (bad place kind err))
+      own_holds area (Some held) count uber r (Ok (check_told x.store.marks (group_of (kept_of uber)))) (own_says (check_told x.store.marks) uber found.some at.b.own_areas)
+
+  pub told_value : (x : State) (pieces : ℕ → Pieces) (o : Option Held) (leaves : ℕ → Option Shape) (counts : ℕ → KitCounts) (count : ℕ) (uber : Uber A) (value : CheckTold)
+      → RestsThere x pieces o leaves counts count → IsFoundUber area uber → IsRecovered area o count uber → HoldsCheck (group_of (kept_of uber)) o (Ok value) → value ≡ check_told x.store.marks (group_of (kept_of uber))
+  told_value x pieces None leaves counts count uber value there found r tells = absurd there.held
+  told_value x pieces (Some held) leaves counts count uber value there found r tells =
+      ok_value value (check_told x.store.marks (group_of (kept_of uber))) (one_told (group_of (kept_of uber)) held (Ok value) (Ok (check_told x.store.marks (group_of (kept_of uber)))) tells (pool_says x pieces held leaves counts count uber there found r))
+
+  module _ {R : Type 0} (rack : racks.Ghosts R) (alloc : Global) (x : State) (pieces : ℕ → Pieces) (leaves : ℕ → Option Shape) (counts : ℕ → KitCounts) (count : ℕ) (uber : Uber A) (shards : List (Shard R A)) (known : ℕ → Option Shape) (now : ℕ → KitCounts) where
+    -- the metaslabs have the blocks that it names
+    pub named_there : (held : Held) → RestsThere x pieces (Some held) leaves counts count → (found : IsFoundUber area uber) (r : IsRecovered area (Some held) count uber) → ((m : ℕ) → now m ≡ counts m) → AreReopened rack (layout_of uber) (group_of (kept_of uber)) shards
+        → OpensAllOver rack area (limit_of (layout_of uber)) (group_of (kept_of uber)) (next_leaf_of uber) (takes_areas (Some held)) known now shards
+        → (value : CheckTold) → value ≡ check_told x.store.marks (group_of (kept_of uber)) → 0 < value.group → (i : ℕ) (d : Dropped) → slice_get value.drops i ≡ Some d → HaveBorn shards value.group (key_in d)
+    named_there held there found r counted_now re over value value_is some i d at = by (check_by (marks_upto group x.store.marks)) refl
+      where
+        f : RestsFoundAt area x pieces held leaves counts count uber
+        f = body_found area x pieces held leaves counts count uber there found r
+
+        group : ℕ
+        group = group_of (kept_of uber)
+
+        same : group ≡ f.b.body.group
+        same = f.b.group
+
+        told_is : value ≡ point_told (marks_upto group x.store.marks)
+        told_is = value_is ∙ sym (point_upto group x.store.marks)
+
+        many : length shards ≡ length x.metaslabs
+        many = as_many_found rack area (found_at x f.version) pieces held leaves counts count f.there uber found r f.b shards re
+
+        each : (m : ℕ) (shard : Shard R A) (y : Metaslab) → slice_get shards m ≡ Some shard → slice_get x.metaslabs m ≡ Some y → OpensFound rack area (found_at x f.version) f.b.body.group m (pieces m) y shard
+        each = each_found rack area (found_at x f.version) pieces held leaves counts count f.there uber found r f.b alloc known now shards counted_now re over
+
+        by : (o : Option Check) → check_by (marks_upto group x.store.marks) ≡ o → HaveBorn shards value.group (key_in d)
+        by None none = (let is_zero = ap (λ (v : CheckTold). v.group) told_is ∙ no_group (marks_upto group x.store.marks) none in absurd (omega (arith, some, is_zero)))
+        by (Some c) is = have_born
+          where
+            t : Tells value c
+            t = subst (λ v. Tells v c) (sym told_is) (told_check (marks_upto group x.store.marks) c is)
+
+            has : HasCheck x.store.changes c (sealed_at group (blocks_of x.metaslabs))
+            has = there.held.objects.stores.checked group c (later_group x group (subst (MayFind x) (sym same) f.b.finds.may)) is
+
+            b : (m : ℕ) × IsSome (born_upto c.group (sealed_at group (blocks_of x.metaslabs)) m (key_in d))
+            b = has.drops (key_in d) ((t.dropped (key_in d)).1 (among value.drops i d at))
+
+            s : (h : Block) × (sealed_at group (blocks_of x.metaslabs) b.0 (key_in d) ≡ Some h) × (h.birth ≤ c.group)
+            s = born_some c.group (sealed_at group (blocks_of x.metaslabs) b.0 (key_in d)) b.1
+
+            have_born : HaveBorn shards value.group (key_in d)
+            have_born = shard_born rack area (found_at x f.version) pieces held f.there.held f.there.importable.findable uber f.b.body f.b.finds shards many each b.0 (key_in d) s.0
+                (subst (λ g. sealed_at g (blocks_of x.metaslabs) b.0 (key_in d) ≡ Some s.0) same s.1) value.group (let born = s.2 in let own = t.group_is in omega (arith, born, own))
+
+    -- its check record has no fault
+    pub no_check_fault : {T : Type 0} (o : Option Held) (why : ImportFault) → RestsThere x pieces o leaves counts count → IsFoundUber area uber → IsRecovered area o count uber → ((m : ℕ) → now m ≡ counts m)
+        → AreReopened rack (layout_of uber) (group_of (kept_of uber)) shards → OpensAllOver rack area (limit_of (layout_of uber)) (group_of (kept_of uber)) (next_leaf_of uber) (takes_areas o) known now shards
+        → ((place : ℕ) (kind : RecordFaultKind) → IsErrOf {T = T} (Err why) (fault.Check place kind) → IsBadCheck (OwnCheck area uber) shards place kind) → NoCheck {T = T} (Err why)
+    no_check_fault None why there found r counted_now re over bad place kind err = absurd there.held
+    no_check_fault (Some held) why there found r counted_now re over bad place kind err =
+        by (bad_entry area (Some held) count uber shards place kind r (bad place kind err))
+      where
+        says_so : HoldsCheck (group_of (kept_of uber)) (Some held) (Ok (check_told x.store.marks (group_of (kept_of uber))))
+        says_so = pool_says x pieces held leaves counts count uber there found r
+
+        by : IsBadCheck (HoldsCheck (group_of (kept_of uber)) (Some held)) shards place kind → ⊥
+        by (inl ill) = ok_bad (check_told x.store.marks (group_of (kept_of uber))) (Bad place kind)
+            (one_told (group_of (kept_of uber)) held (Ok (check_told x.store.marks (group_of (kept_of uber)))) (Err (Bad place kind)) says_so ill)
+        by (inr n) = n.lack.lack (named_there held there found r counted_now re over n.value (told_value x pieces (Some held) leaves counts count uber n.value there found r n.read) n.some n.i n.lack.named n.lack.there)
 
 -- ---- a call that failed
 

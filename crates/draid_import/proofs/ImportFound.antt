@@ -1,6 +1,8 @@
 -- The state that an import finds, of a pool that rests on a shelf.
-use Rattle.std.proofs.Common.{arith, ◌≡◌, ◌+◌, ◌<◌, ◌≤◌, ◌∙◌, inl, inr, ℕ, zero, suc, List, [], ◌∷◌, Option, Some, None, length, refl, sym, ap, subst}
-use Rattle.std.specs.Prelude.{IsSome, option_map, slice_get}
+use Rattle.std.proofs.Common.{arith, ◌≡◌, ◌+◌, ◌<◌, ◌≤◌, ◌∙◌, inl, inr, ℕ, zero, suc, Bool, true, false, List, [], ◌∷◌, Option, Some, None, length, refl, sym, ap, subst, if◌then◌else◌}
+use Rattle.std.specs.Prelude.{All, IsSome, filter, max, nat_le, option_map, slice_get}
+use Rattle.std.proofs.lemmas.Bool.Decides.{nat_tests}
+use Rattle.std.proofs.lemmas.List.Elements.{All-cons, All-head, All-tail, All-weaker}
 use Rattle.std.proofs.lemmas.Bool.{cases_lt}
 use Rattle.std.proofs.lemmas.Option.{slice_get_within}
 use Rattle.sha2.specs.Sha256.{sha256}
@@ -21,7 +23,8 @@ use Rattle.draid_machine.proofs.Standing.{every_image}
 use Rattle.draid_layouts.specs.Layout.{layout_of}
 use Rattle.draid_objects.specs.Blocks.{SaysOf, sealed_at, table_of}
 use Rattle.draid_objects.specs.Changes.{Change, Write, kept, upto, write_by, write_of}
-use Rattle.draid_objects.specs.Stores.{IsFloor, Stores}
+use Rattle.draid_objects.specs.Stores.{AreMarkedUpto, IsFloor, Stores}
+use Rattle.draid_import.proofs.ImportDrops.{AreOld, old_check}
 use Rattle.draid_objects.proofs.Finding.{by_upto}
 use Rattle.draid_objects.proofs.Keeping.{opening_floor, opening_kept}
 use Rattle.draid_objects.proofs.Sealing.{live_block, says_same, sealed_live}
@@ -37,13 +40,23 @@ use Rattle.draid_pool.specs.Importable.{IsFindable}
 use Rattle.draid_pool.specs.Objects.{HasGroups, HasPieces, HoldsObjects, blocks_of}
 use Rattle.draid_pool.specs.Pools.{part_in}
 use Rattle.draid_pool.specs.Records.{HasImage, HasImages, HasLeafNumbers, LeavesAreBelow}
-use Rattle.draid_import.proofs.ImportMarks.{found_unmarked}
+use Rattle.draid_objects.specs.Marks.{Mark, check_by, counted, mark_group, marks_upto}
+use Rattle.draid_objects.proofs.Checking.{count_same}
 use Rattle.draid_import.proofs.ImportMetaslab.{FindsImage, was_arm}
 use Rattle.draid_import.proofs.ImportVersion.{image_version}
 use Rattle.draid_pool.proofs.Lists.{present, some_of}
 use Rattle.draid_pool.proofs.Moved.{blocks_at}
 
 -- ---- lists
+
+-- what all are, those are that a test lets through
+pub kept_filter : {A : Type 0} (P : A → Type 0) (p : A → Bool) (xs : List A) → All P xs → All P (filter p xs)
+kept_filter P p [] all = all
+kept_filter P p (x ∷ xs) all = by (p x) (kept_filter P p xs (All-tail P x xs all))
+  where
+    by : (b : Bool) → All P (filter p xs) → All P (if b then x ∷ filter p xs else filter p xs)
+    by true rest = All-cons P x (filter p xs) (All-head P x xs all) rest
+    by false rest = rest
 
 absent : {A : Type 0} (xs : List A) (m : ℕ) → length xs ≤ m → slice_get xs m ≡ None
 absent [] m over = refl
@@ -152,11 +165,13 @@ module _ (x mid : State) (group : ℕ) (pieces : ℕ → Pieces) (finds : Finds 
   later : x.committed ≤ group
   later = later_group x group finds.found
 
-  -- what the blocks say of an object is what the group keeps of it
-  pub found_says : (object : ℕ) → SaysOf (blocks_of mid.metaslabs) object (write_of mid.store.changes object)
+  -- what those blocks say of an object that count beside the checkpoint is what the group keeps of it
+  pub found_says : (object : ℕ) → SaysOf (counted (check_by (marks_upto group x.store.marks)) (blocks_of mid.metaslabs)) object (write_of mid.store.changes object)
   found_says object =
-      subst (λ cs. SaysOf (blocks_of mid.metaslabs) object (write_of cs object)) changes_are
-      (says_same (sealed_at group (blocks_of x.metaslabs)) (blocks_of mid.metaslabs) object (kept group x.store.changes object) (λ m k same. found_blocks m k) (objects.stores.says group object later))
+      let check = check_by (marks_upto group x.store.marks) in
+      subst (λ cs. SaysOf (counted check (blocks_of mid.metaslabs)) object (write_of cs object)) changes_are
+      (says_same (counted check (sealed_at group (blocks_of x.metaslabs))) (counted check (blocks_of mid.metaslabs)) object (kept group x.store.changes object)
+      (λ m k same. count_same check (sealed_at group (blocks_of x.metaslabs)) (blocks_of mid.metaslabs) m k (found_blocks m k)) (objects.stores.says group object later))
 
   found_pieces : (m : ℕ) (k : Key) (h : Block) (write : Write) → blocks_of mid.metaslabs m k ≡ Some h → write_by (upto group x.store.changes) k ≡ Some write → HasPieces x.geometry write (pieces m)
   found_pieces m k h write is by =
@@ -180,14 +195,15 @@ module _ (x mid : State) (group : ℕ) (pieces : ℕ → Pieces) (finds : Finds 
       let low = objects.numbered m k z.h z.found in
       omega (arith, low, same)
 
-  pub found_holds : ((m : ℕ) (k : Key) (h : Block) → blocks_of mid.metaslabs m k ≡ Some h → k.seq ≤ mid.store.seq) → HoldsObjects mid.geometry mid.committed mid.store (blocks_of mid.metaslabs) pieces
-  found_holds numbered = subst (λ (c : ℕ). HoldsObjects mid.geometry c mid.store (blocks_of mid.metaslabs) pieces) (sym finds.committed) (record {
-    stores = subst (λ (cs : List Change). Stores sha256 group cs [] (blocks_of mid.metaslabs)) changes_are
-        (opening_kept sha256 x.committed x.store.changes [] (blocks_of x.metaslabs) (blocks_of mid.metaslabs) objects.stores group later found_blocks);
+  pub found_holds : mid.store.marks ≡ marks_upto group x.store.marks → ((m : ℕ) (k : Key) (h : Block) → blocks_of mid.metaslabs m k ≡ Some h → k.seq ≤ mid.store.seq) → HoldsObjects mid.geometry mid.committed mid.store (blocks_of mid.metaslabs) pieces
+  found_holds plain numbered = subst (λ (c : ℕ). HoldsObjects mid.geometry c mid.store (blocks_of mid.metaslabs) pieces) (sym finds.committed) (record {
+    stores = subst (λ (ms : List Mark). Stores sha256 group mid.store.changes ms (blocks_of mid.metaslabs)) (sym plain)
+        (subst (λ (cs : List Change). Stores sha256 group cs (marks_upto group x.store.marks) (blocks_of mid.metaslabs)) changes_are
+        (opening_kept sha256 x.committed x.store.changes x.store.marks (blocks_of x.metaslabs) (blocks_of mid.metaslabs) objects.stores group later found_blocks));
     floors = λ object. subst (λ (f : ℕ). IsFloor mid.store.changes (blocks_of mid.metaslabs) object f) (sym finds.floor)
         (subst (λ (cs : List Change). IsFloor cs (blocks_of mid.metaslabs) object (group + 1)) changes_are
         (opening_floor x.store.changes (blocks_of x.metaslabs) (blocks_of mid.metaslabs) group object (group + 1) found_blocks (omega arith)));
-    unmarked = found_unmarked x mid group finds objects.unmarked;
+    positive = subst (All (λ m. 1 ≤ mark_group m)) (sym plain) (kept_filter (λ m. 1 ≤ mark_group m) (λ m. nat_le (mark_group m) group) x.store.marks objects.positive);
     settled = λ m k h is. live_block h.stage (found_live m k h is);
     numbered = numbered;
     bytes = λ m k h write is by. subst (λ g. HasPieces g write (pieces m)) (sym same)
@@ -200,11 +216,18 @@ module _ (x mid : State) (group : ℕ) (pieces : ℕ → Pieces) (finds : Finds 
   pub found_open : (m : ℕ) (z : Metaslab) → slice_get mid.metaslabs m ≡ Some z → z.world.open_group ≡ mid.committed + 1
   found_open m z at = (let p = pair_at m z at in ap (λ (w : machine.State). w.open_group) (world_is m z p) ∙ ap (λ g. g + 1) (p.reopens.of ∙ sym finds.committed))
 
-  pub found_groups : group < LAST_NUMBER → HasGroups mid
-  found_groups low = record {
+  pub found_groups : group < LAST_NUMBER → AreOld group mid.store.marks → AreMarkedUpto (group + 1) mid.store.marks → HasGroups mid
+  found_groups low old upto = record {
     committed = found_committed;
     next = (let floor = finds.floor in let is = finds.committed in omega (arith, floor, is));
     last = (let floor = finds.floor in omega (arith, floor, low));
+    checks = λ m z at t check from is.
+        (let early = old_check group (λ m. nat_le (mark_group m) t) mid.store.marks check old is in
+        let opened = found_open m z at in
+        let same = finds.committed in
+        omega (arith, early, opened, same));
+    marked = (let floor = finds.floor in let is = finds.committed in
+        All-weaker (λ m. mark_group m ≤ group + 1) (λ m. mark_group m ≤ max mid.store.floor (mid.committed + 1)) (λ m up. grind (arith, nat_tests, up, floor, is)) mid.store.marks upto);
   }
 
   only_image : (m : ℕ) (z : Metaslab) (p : Pair m z) (image : machine.Image) → IsImage z.world image → p.reopens.image ≡ image

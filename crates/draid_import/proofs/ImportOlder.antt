@@ -1,7 +1,8 @@
--- Of the blocks that an import finds those that have later ones are freed.
-use Rattle.std.proofs.Common.{arith, ◌≡◌, ◌≢◌, ◌+◌, ◌++◌, ◌∙◌, inl, inr, ℕ, List, [], ◌∷◌, Some, refl, sym, ap, subst, slice_set}
-use Rattle.std.specs.Prelude.{slice_get}
+-- Of the blocks that an import finds those that have later ones, and that the checkpoint doesn't keep, are freed.
+use Rattle.std.proofs.Common.{arith, ◌≡◌, ◌≢◌, ◌+◌, ◌++◌, ◌∙◌, inl, inr, ℕ, false, List, [], ◌∷◌, Some, refl, sym, ap, subst, slice_set}
+use Rattle.std.specs.Prelude.{IsSome, max, slice_get}
 use Rattle.std.proofs.lemmas.Bool.{cases_eq}
+use Rattle.std.proofs.lemmas.Bool.Decides.{nat_tests}
 use Rattle.std.proofs.lemmas.List.{length-set}
 use Rattle.std.proofs.lemmas.Option.{slice_get_within}
 use Rattle.draid_names.specs.declared.pointer.Pointer.{Pointer}
@@ -10,7 +11,6 @@ use Rattle.draid_area.specs.declared.Area as areas
 use Rattle.draid_machine.specs.declared.event.Event.TheVariants as event
 use Rattle.draid_machine.specs.declared.names.Key.{Key}
 use Rattle.draid_machine.specs.declared.names.Stage.TheVariants as stage
-use Rattle.draid_machine.specs.State as machine
 use Rattle.draid_objects.specs.Blocks.{SaysOf, Sets}
 use Rattle.draid_objects.specs.Changes as changes
 use Rattle.draid_objects.specs.Changes.{Write, write_of}
@@ -19,27 +19,30 @@ use Rattle.draid_objects.proofs.Sealing.{is_some_of, set_cases}
 use Rattle.draid_objects.proofs.Sealing as sealing
 use Rattle.draid_segments.specs.Segments.{Pieces}
 use Rattle.draid_entries.specs.Maps.{key_of}
-use Rattle.draid_shard.specs.Part.{Part, layout_in}
+use Rattle.draid_shard.specs.Part.{Part}
 use Rattle.draid_shard.specs.declared.shard.Shard.{Shard}
 use Rattle.draid_uber.specs.declared.uber.Uber.{Uber}
-use Rattle.draid_session.specs.Follows as follows
-use Rattle.draid_session.specs.Holds.{Act, Did, Hold, Looked, On, OnUber, view_of}
+use Rattle.draid_session.specs.Holds.{Did, Hold, On, view_of}
+use Rattle.draid_session.specs.Points.{KeepsBirth}
 use Rattle.draid_session.specs.Opening.{Frees, FreesOlder, IsLoose, IsOlder}
 use Rattle.draid_session.specs.State.{Metaslab, State, Store}
-use Rattle.draid_import.specs.Imported.{FreedOlder, SaysObjects, StandsFound}
+use Rattle.draid_import.specs.Imported.{FreedOlder, SaysObjects, StandsFound, counted_of}
+use Rattle.draid_objects.specs.Marks.{check_by, is_dropped}
+use Rattle.draid_objects.specs.Stores.{IsBehindChecks, IsSpare}
+use Rattle.draid_objects.proofs.Checking.{count_kept}
 use Rattle.draid_pool.specs.Metaslabs.{IsMetaslab}
 use Rattle.draid_pool.specs.Objects.{HoldsObjects, blocks_of, worlds_of}
 use Rattle.draid_pool.specs.Pools.{part_in}
 use Rattle.draid_pool.specs.Importable.{IsAlike}
 use Rattle.draid_pool.specs.Records.{HasImage, LeavesAreBelow}
-use Rattle.draid_pool.specs.Shards.{FollowsIn, FreesIn, Goes}
+use Rattle.draid_pool.specs.Shards.{FreesIn, Goes}
 use Rattle.draid_pool.specs.Ubers.{IsUber}
 use Rattle.draid_pool.proofs.Entering.{older_holds, still}
 use Rattle.draid_pool.proofs.Imaged.{alike_stays, image_kept, leaves_kept}
 use Rattle.draid_pool.proofs.Lists.{get_set_other, get_set_same, present, some_of}
 use Rattle.draid_pool.proofs.Moved.{blocks_at, each_set, follows_one, moves_one, with_metaslab}
 use Rattle.draid_pool.proofs.Steps.{follows_both}
-use Rattle.draid_pool.proofs.Unmarked.{not_pointed}
+use Rattle.draid_pool.proofs.Marked.{marked_later, spare_of}
 
 -- ---- holds
 
@@ -66,30 +69,20 @@ frees_older x group m key (On v (Did (event.Free k t) w) ∷ holds) older (inl h
 frees_older x group m key (On v (Did (event.Free k t) w) ∷ holds) older (inr later) = frees_older x group m key holds older.2 later
 frees_older x group m key (hold ∷ holds) older frees = absurd older
 
-abbrev act_of : Hold → Act
-act_of (On v act) = act
-act_of (OnUber u act) = Looked
-
--- a metaslab in which a block was freed has the same group open
-free_opens : (l : machine.Layout) (m : ℕ) (holds : List Hold) (y z : Metaslab) (key : Key) (group : ℕ) → holds ≡ On (view_of m y) (Did (event.Free key group) z.world) ∷ [] → FollowsIn l m holds y z
-    → z.world.open_group ≡ y.world.open_group
-free_opens l m holds y z key group are f = by (subst (λ hs. FollowsIn l m hs y z) are f)
-  where
-    by : FollowsIn l m (On (view_of m y) (Did (event.Free key group) z.world) ∷ []) y z → z.world.open_group ≡ y.world.open_group
-    by g =
-        let act : g.0 ≡ Did (event.Free key group) z.world = ap act_of (sym g.2) in
-        let acts : follows.MetaslabActs l (Did (event.Free key group) z.world) y g.1 = subst (λ a. follows.MetaslabActs l a y g.1) act g.3 in
-        ap (λ (w : machine.State). w.open_group) acts.legal.made
-
 -- ---- older blocks
+
+-- the later block counts
+pub later_counts : (x : State) (key : Key) (older : IsOlder x key) → IsSome (counted_of x older.m older.later)
+later_counts x key older = is_some_of (counted_of x older.m older.later) older.held
+    (count_kept (check_by x.store.marks) (blocks_of x.metaslabs) older.m older.later older.counts ∙ (blocks_at x.metaslabs older.m older.y older.later older.there ∙ older.found))
 
 -- a block with a later one isn't that of its object's last write
 older_key : (x : State) (key : Key) (w : Write) → SaysObjects x → IsOlder x key → write_of x.store.changes key.object ≡ Some w → changes.key_of w ≢ key
 older_key x key w says older last same =
-    let said : SaysOf (blocks_of x.metaslabs) key.object (Some w) = subst (SaysOf (blocks_of x.metaslabs) key.object) last (says key.object) in
+    let said : SaysOf (counted_of x) key.object (Some w) = subst (SaysOf (counted_of x) key.object) last (says key.object) in
     let seq : w.seq ≡ key.seq = ap (λ (k : Key). k.seq) same in
     let greater = older.greater in
-    elim (said.others older.m older.later older.same (is_some_of (blocks_of x.metaslabs older.m older.later) older.held (blocks_at x.metaslabs older.m older.y older.later older.there ∙ older.found))) [
+    elim (said.others older.m older.later older.same (later_counts x key older)) [
       | inl z ↦ (let later : older.later.seq ≡ w.seq = ap (λ (k : Key). k.seq) z.1 in absurd (omega (arith, seq, greater, later)))
       | inr less ↦ absurd (omega (arith, seq, greater, less))
     ]
@@ -104,6 +97,7 @@ module _ {R A : Type 0} (rack : racks.Ghosts R) (area : areas.Ghosts A) (mid : S
     kept = is.kept;
     next_leaf = is.next_leaf;
     point = is.point;
+    late = is.late;
     count = is.count;
     stands = record { pending = is.stands.pending; are = is.stands.are; stands = is.stands.stands };
   }
@@ -122,7 +116,7 @@ module _ {R A : Type 0} (rack : racks.Ghosts R) (area : areas.Ghosts A) (mid : S
   }
 
   module _ (says : SaysObjects mid) (shards : List (Shard R A)) (s : FreedOlder rack area mid shards uber pieces) (m : ℕ) (shard shard' : Shard R A) (there : slice_get shards m ≡ Some shard) (p : Pointer)
-      (older : IsOlder mid (key_of p)) (floor group : ℕ) (floor_is : floor ≡ mid.committed + 1)
+      (older : IsOlder mid (key_of p)) (counts : is_dropped (check_by mid.store.marks) (key_of p) ≡ false) (loose_is : KeepsBirth mid.store.marks p.birth → ⊥) (floor group : ℕ) (floor_is : floor ≡ mid.committed + 1)
       (frees : (part : Part) (pieces : Pieces) (y : Metaslab) → IsMetaslab rack area part pieces shard y → Goes rack area part pieces y shard' (FreesIn part.number p floor group y)) where
     abbrev x : State
     x = s.reached
@@ -161,14 +155,22 @@ module _ {R A : Type 0} (rack : racks.Ghosts R) (area : areas.Ghosts A) (mid : S
     set = one_set (worlds_of x.metaslabs) (worlds_of (slice_set x.metaslabs m y')) m y.world y'.world (moves_one x.metaslabs m y y' at) k (Some (record g.done.held { stage = stage.Freed group })) g.done.made
 
     last : (w : Write) × (write_of x.store.changes k.object ≡ Some w)
-    last = sealing.some_of (write_of x.store.changes k.object) (st.holds.stores.live m k g.done.held k_there g.done.live refl)
+    last = sealing.some_of (write_of x.store.changes k.object) (st.holds.stores.live m k g.done.held k_there g.done.live (ap (λ (z : Store). is_dropped (check_by z.marks) k) s.same_store ∙ counts))
 
     other : changes.key_of last.0 ≢ k
     other = older_key mid k last.0 says older (ap (λ (z : Store). write_of z.changes k.object) (sym s.same_store) ∙ last.1)
 
+    -- no checkpoint keeps it from then on
+    loose_now : KeepsBirth x.store.marks g.done.held.birth → ⊥
+    loose_now keeps = loose_is (subst (KeepsBirth mid.store.marks) g.done.birth (subst (λ (z : Store). KeepsBirth z.marks g.done.held.birth) s.same_store keeps))
+
+    spare : IsSpare group x.store.marks g.done.held.birth
+    spare = spare_of group g.done.held.birth x.store.marks
+        (marked_later (max x.store.floor (x.committed + 1)) group x.store.marks (let is = st.floor in let now = floor_now in grind (arith, nat_tests, is, now)) st.groups.marked) loose_now
+
     holds_then : HoldsObjects x.geometry x.committed x.store (blocks_of (slice_set x.metaslabs m y')) pieces
     holds_then = subst (λ f. HoldsObjects x.geometry x.committed (record x.store { floor = f }) (blocks_of (slice_set x.metaslabs m y')) pieces) (sym floor_now)
-        (older_holds x.geometry x.committed x.store (blocks_of x.metaslabs) (blocks_of (slice_set x.metaslabs m y')) pieces st.holds m k g.done.held k_there g.done.live group (omega (arith, floor_now)) set last.0 last.1 other)
+        (older_holds x.geometry x.committed x.store (blocks_of x.metaslabs) (blocks_of (slice_set x.metaslabs m y')) pieces st.holds m k g.done.held k_there g.done.live group (omega (arith, floor_now)) set last.0 last.1 other spare)
 
     each_then : (n : ℕ) (z : Shard R A) (v : Metaslab) → slice_get (slice_set shards m shard') n ≡ Some z → slice_get (slice_set x.metaslabs m y') n ≡ Some v → IsMetaslab rack area (part_in x n) (pieces n) z v
     each_then n z v a b = elim (cases_eq n m) [
@@ -193,6 +195,9 @@ module _ {R A : Type 0} (rack : racks.Ghosts R) (area : areas.Ghosts A) (mid : S
         committed = each_set x.metaslabs m y y' (λ z. z.world.committed ≡ x.committed) at (g.done.committed ∙ st.groups.committed m y at) st.groups.committed;
         next = st.groups.next;
         last = st.groups.last;
+        checks = each_set x.metaslabs m y y' (λ z. IsBehindChecks x.committed x.store.marks z.world.open_group) at
+            (subst (IsBehindChecks x.committed x.store.marks) (sym g.done.open_group_is) (st.groups.checks m y at)) st.groups.checks;
+        marked = st.groups.marked;
       };
       uber_is = uber_stays x (slice_set x.metaslabs m y') st.uber_is;
       images = λ group n v may some. each_set x.metaslabs m y y' (HasImage group) at (image_kept group y y' g.images (st.images group m y may some at)) (λ n z. st.images group n z may some) n v;
@@ -205,13 +210,12 @@ module _ {R A : Type 0} (rack : racks.Ghosts R) (area : areas.Ghosts A) (mid : S
       at_version = st.at_version;
       alike = each_set x.metaslabs m y y' (λ z. IsAlike st.shared z.world) at (alike_stays st.shared y.world y'.world g.images (st.alike m y at)) st.alike;
       open_groups = each_set x.metaslabs m y y' (λ z. z.world.open_group ≡ x.committed + 1) at
-          (free_opens (layout_in (part_in x m)) m g.holds y y' k group g.done.are g.follows ∙ st.open_groups m y at) st.open_groups;
+          (g.done.open_group_is ∙ st.open_groups m y at) st.open_groups;
       floor = st.floor;
     }
 
-    -- no checkpoint keeps it
     loose : IsLoose mid (view_of m y) k
-    loose = record { older = older; held = g.done.held; there = g.done.found; loose = not_pointed mid.store.marks g.done.held (sym (ap (λ (z : Store). z.marks) s.same_store) ∙ st.holds.unmarked) }
+    loose = record { older = older; held = g.done.held; there = g.done.found; loose = λ keeps. loose_is (subst (KeepsBirth mid.store.marks) g.done.birth keeps) }
 
     -- one older block was freed
     pub older_step : FreedOlder rack area mid (slice_set shards m shard') uber pieces

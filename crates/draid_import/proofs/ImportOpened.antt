@@ -1,6 +1,6 @@
 -- All metaslabs of a pool that rests on a shelf, as an import opens them.
-use Rattle.std.proofs.Common.{arith, ◌≡◌, ◌<◌, ◌≤◌, ◌∙◌, ℕ, zero, suc, List, [], ◌∷◌, Option, Some, None, length, ap, refl, sym, subst}
-use Rattle.std.specs.Prelude.{IsSomeAnd, slice_get}
+use Rattle.std.proofs.Common.{arith, ◌≡◌, ◌+◌, ◌<◌, ◌≤◌, ◌++◌, ◌∙◌, ℕ, zero, suc, List, [], ◌∷◌, Option, Some, None, length, refl, sym, subst}
+use Rattle.std.specs.Prelude.{◌↔◌, All, IsSomeAnd, slice_get}
 use Rattle.std.proofs.lemmas.Option.{slice_get_within}
 use Rattle.std.proofs.lemmas.List.Elements.{All-nil}
 use Rattle.draid_names.specs.declared.numbers.TheConstants.{LAST_NUMBER}
@@ -10,15 +10,15 @@ use Rattle.draid_machine.specs.Created.{IsReached}
 use Rattle.draid_machine.specs.State as machine
 use Rattle.draid_shard.proofs.Standing.{has_layout}
 use Rattle.draid_layouts.specs.Layout.{layout_of}
-use Rattle.draid_objects.specs.Marks.{marks_upto}
-use Rattle.draid_pool.proofs.Unmarked.{not_pointed}
+use Rattle.draid_objects.specs.Marks.{Mark, marks_upto}
+use Rattle.draid_objects.specs.Stores.{AreMarkedUpto}
 use Rattle.draid_record.specs.declared.uber.UberBody.{UberBody}
 use Rattle.draid_segments.specs.Segments.{Pieces}
 use Rattle.draid_shelf.specs.Kits.{Held, KitTold}
 use Rattle.draid_shard.specs.declared.shard.Shard.{Shard}
 use Rattle.draid_uber.specs.Checks.{AreasStand, told_by}
 use Rattle.draid_uber.specs.Uber as ubers
-use Rattle.draid_uber.specs.Uber.{Valid, areas_of, count_of, kept_of, next_leaf_of, version_of}
+use Rattle.draid_uber.specs.Uber.{Valid, areas_of, changed_of, count_of, kept_of, next_check, next_leaf_of, version_of}
 use Rattle.draid_uber.specs.declared.uber.Uber.{Uber}
 use Rattle.draid_session.specs.Opening.{DropsOlder, Finds, IsLastSeq, LeafIn, MayFind, Reopens, VersionIn}
 use Rattle.draid_session.specs.State.{Metaslab, State}
@@ -26,8 +26,11 @@ use Rattle.draid_pool.specs.Returning.{Rests, RestsOn}
 use Rattle.draid_pool.specs.Importable.{AllAlike, AreAlike, IsFindable}
 use Rattle.draid_import.specs.Imported.{FindsBody, OpensFound, SaysObjects, StandsFound, found_state}
 use Rattle.draid_pool.specs.Metaslabs.{IsMetaslab}
+use Rattle.draid_pool.specs.Objects.{HoldsObjects, blocks_of}
 use Rattle.draid_pool.specs.Pools.{part_in}
+use Rattle.draid_session.specs.Points.{HasLateMark}
 use Rattle.draid_import.proofs.ImportAlike.{found_arms}
+use Rattle.draid_import.proofs.ImportDrops.{AreOld}
 use Rattle.draid_pool.proofs.Alike.{one_shared}
 use Rattle.draid_import.proofs.ImportFound.{found_groups, found_holds, found_images, found_leaves, found_open, found_says, numbered_last, part_there}
 use Rattle.draid_import.proofs.ImportUber.{found_uber}
@@ -58,10 +61,10 @@ module _ (x : State) (pieces : ℕ → Pieces) (held : Held) (rests : Rests x pi
   pub all_reached : (m : ℕ) (y : Metaslab) → slice_get x.metaslabs m ≡ Some y → IsReached (layout_of x.geometry x.perms m) y.world
   all_reached m y at = (rested (held.kits m) x m (pieces m) y (rests.kits m y at)).2.reached
 
-pub finds_state : (x : State) (group next : ℕ) (metaslabs : List Metaslab) (seq count : ℕ) → x.store.marks ≡ [] → VersionIn x group x.geometry.props.version → MayFind x group → 0 < group → LeafIn x group next → length metaslabs ≡ length x.metaslabs
+pub finds_state : (x : State) (group next : ℕ) (metaslabs : List Metaslab) (marks drops : List Mark) (seq count : ℕ) → marks ≡ drops ++ marks_upto group x.store.marks → All (DropsOlder (found_state x group next metaslabs marks seq count) group) drops → VersionIn x group x.geometry.props.version → MayFind x group → 0 < group → LeafIn x group next → length metaslabs ≡ length x.metaslabs
     → ((m : ℕ) (y z : Metaslab) → slice_get x.metaslabs m ≡ Some y → slice_get metaslabs m ≡ Some z → Reopens x.geometry x.perms group m y z) → x.uber_count ≤ count
-    → Finds x group (found_state x group next metaslabs seq count)
-finds_state x group next metaslabs seq count unmarked version may some leaf many each counts = record {
+    → Finds x group (found_state x group next metaslabs marks seq count)
+finds_state x group next metaslabs marks drops seq count behind drops_are version may some leaf many each counts = record {
   found = may;
   some = some;
   layout = (refl, refl);
@@ -73,10 +76,9 @@ finds_state x group next metaslabs seq count unmarked version may some leaf many
   pending = refl;
   counts = counts;
   changes = refl;
-  drops = [];
-  marks = refl;
-  drops_are = All-nil (DropsOlder (found_state x group next metaslabs seq count) group);
-  dropped = λ m y key h at held older pointed. absurd (not_pointed (marks_upto group x.store.marks) h (ap (marks_upto group) unmarked) pointed);
+  drops = drops;
+  marks = behind;
+  drops_are = drops_are;
   floor = refl;
   told = refl;
 }
@@ -103,10 +105,10 @@ module _ {R A : Type 0} (rack : racks.Ghosts R) (area : areas.Ghosts A) (x : Sta
   module _ (seq : ℕ) (counted : x.uber_count ≤ count_of area.faults uber) where
     -- the state that is found
     abbrev pub opened_state : State
-    opened_state = found_state x body.group body.next_leaf all_opened.0 seq (count_of area.faults uber)
+    opened_state = found_state x body.group body.next_leaf all_opened.0 (marks_upto body.group x.store.marks) seq (count_of area.faults uber)
 
     pub finds_opened : Finds x body.group opened_state
-    finds_opened = finds_state x body.group body.next_leaf all_opened.0 seq (count_of area.faults uber) rests.objects.unmarked body_is.version body_is.may body_is.some body_is.leaf all_opened.1 (λ m y z at there. (all_opened.2 m y z at there).reopens) counted
+    finds_opened = finds_state x body.group body.next_leaf all_opened.0 (marks_upto body.group x.store.marks) [] seq (count_of area.faults uber) refl (All-nil (DropsOlder opened_state body.group)) body_is.version body_is.may body_is.some body_is.leaf all_opened.1 (λ m y z at there. (all_opened.2 m y z at there).reopens) counted
 
     pub opened_is_in : (m : ℕ) (shard : Shard R A) (z : Metaslab) → slice_get shards m ≡ Some shard → slice_get opened_state.metaslabs m ≡ Some z → IsMetaslab rack area (part_in x m) (pieces m) shard z
     opened_is_in m shard z at there =
@@ -121,6 +123,18 @@ module _ {R A : Type 0} (rack : racks.Ghosts R) (area : areas.Ghosts A) (x : Sta
     pub opened_says : SaysObjects opened_state
     opened_says = found_says x opened_state body.group pieces finds_opened refl rests.layout rests.many reached rests.leaves findable rests.objects
 
+    pub opened_holds : IsLastSeq opened_state seq → HoldsObjects opened_state.geometry opened_state.committed opened_state.store (blocks_of opened_state.metaslabs) pieces
+    opened_holds last = found_holds x opened_state body.group pieces finds_opened refl rests.layout rests.many reached rests.leaves findable rests.objects refl
+        (numbered_last x opened_state body.group pieces finds_opened refl rests.layout rests.many reached rests.leaves findable rests.objects last)
+
+    -- the state with these marks
+    abbrev pub marked_state : List Mark → State
+    marked_state marks = found_state x body.group body.next_leaf all_opened.0 marks seq (count_of area.faults uber)
+
+    pub finds_marked : (marks drops : List Mark) → marks ≡ drops ++ marks_upto body.group x.store.marks → All (DropsOlder (marked_state marks) body.group) drops → Finds x body.group (marked_state marks)
+    finds_marked marks drops behind drops_are = finds_state x body.group body.next_leaf all_opened.0 marks drops seq (count_of area.faults uber) behind drops_are body_is.version body_is.may body_is.some body_is.leaf all_opened.1
+        (λ m y z at there. (all_opened.2 m y z at there).reopens) counted
+
     opened_arms : AreAlike x → (arms : machine.Core) × AllAlike (one_shared x.geometry.props.version arms) opened_state
     opened_arms alike = found_arms x body.group all_opened.0 alike body_is.may findable body_is.version
         (λ m y at. has_layout (part_in x m) (part_there x rests.layout rests.many rests.images rests.leaves findable m y at)) reached (λ m z at.
@@ -129,23 +143,25 @@ module _ {R A : Type 0} (rack : racks.Ghosts R) (area : areas.Ghosts A) (x : Sta
         let y = present x.metaslabs m (omega (arith, within, same)) in
         (y.0, y.1, (all_opened.2 m y.0 z y.1 at).reopens)))
 
-    pub opened_stands : AreAlike x → IsLastSeq opened_state seq → body.group < LAST_NUMBER → Valid area.size uber → kept_of uber ≡ Some body → version_of uber ≡ body.props.version → next_leaf_of uber ≡ body.next_leaf
-        → AreasStand (check_told x.store.marks) (kept_of uber) [] (told_by area.told (areas_of uber)) → (ubers.point_of uber).group ≡ None → ubers.layout_of uber ≡ x.geometry → StandsFound rack area shards uber pieces opened_state
-    opened_stands alike last low valid kept version next stands point layout_is = record {
+    pub opened_stands : (marks : List Mark) → Finds x body.group (marked_state marks) → AreAlike x → HoldsObjects x.geometry body.group (marked_state marks).store (blocks_of all_opened.0) pieces → AreOld body.group marks → AreMarkedUpto (body.group + 1) marks
+        → body.group < LAST_NUMBER → Valid area.size uber → kept_of uber ≡ Some body → version_of uber ≡ body.props.version → next_leaf_of uber ≡ body.next_leaf
+        → AreasStand (check_told x.store.marks) (kept_of uber) [] (told_by area.told (areas_of uber)) → check_told marks body.group ≡ check_told x.store.marks body.group
+        → ((g : ℕ) → body.group < g → next_check uber g ≡ check_told marks g) → ((g : ℕ) → body.group ≤ g → HasLateMark g marks ↔ (g < changed_of uber)) → ubers.layout_of uber ≡ x.geometry
+        → StandsFound rack area shards uber pieces (marked_state marks)
+    opened_stands marks finds alike holds old upto low valid kept version next stands told point late layout_is = record {
       layout = rests.layout;
       many = all_opened.1 ∙ rests.many;
       shards_are = many ∙ sym all_opened.1;
       each = opened_is_in;
-      holds = found_holds x opened_state body.group pieces finds_opened refl rests.layout rests.many reached rests.leaves findable rests.objects
-          (numbered_last x opened_state body.group pieces finds_opened refl rests.layout rests.many reached rests.leaves findable rests.objects last);
-      groups = found_groups x opened_state body.group pieces finds_opened refl rests.layout rests.many reached rests.leaves findable rests.objects low;
-      uber_is = found_uber area x opened_state uber body valid kept body_is layout_is version next stands point rests.objects.unmarked (ap (marks_upto body.group) rests.objects.unmarked) refl refl refl refl refl (refl, refl);
-      images = found_images x opened_state body.group pieces finds_opened refl rests.layout rests.many reached rests.leaves findable rests.objects;
-      leaves = found_leaves x opened_state body.group pieces finds_opened refl rests.layout rests.many reached rests.leaves findable rests.objects;
+      holds = holds;
+      groups = found_groups x (marked_state marks) body.group pieces finds refl rests.layout rests.many reached rests.leaves findable rests.objects low old upto;
+      uber_is = found_uber area x (marked_state marks) uber body valid kept body_is layout_is version next stands told point late refl refl refl refl refl (refl, refl);
+      images = found_images x (marked_state marks) body.group pieces finds refl rests.layout rests.many reached rests.leaves findable rests.objects;
+      leaves = found_leaves x (marked_state marks) body.group pieces finds refl rests.layout rests.many reached rests.leaves findable rests.objects;
       shared = one_shared x.geometry.props.version (opened_arms alike).0;
       versions = record { kept = refl; now = refl };
       at_version = refl;
       alike = (opened_arms alike).1;
-      open_groups = found_open x opened_state body.group pieces finds_opened refl rests.layout rests.many reached rests.leaves findable rests.objects;
+      open_groups = found_open x (marked_state marks) body.group pieces finds refl rests.layout rests.many reached rests.leaves findable rests.objects;
       floor = refl;
     }

@@ -1,5 +1,5 @@
 -- What an import finds on a shelf on which the pool of a state rests: the body of the uberblock, each metaslab by its record, and the newest block of each object.
-use Rattle.std.proofs.Common.{arith, ◌≡◌, ◌≤◌, ◌∙◌, ℕ, List, [], Option, Some, None, length, refl, sym, ap, subst}
+use Rattle.std.proofs.Common.{arith, ◌≡◌, ◌≤◌, ◌∙◌, ℕ, List, [], Option, Some, None, Result, length, refl, sym, ap, subst}
 use Rattle.std.specs.declared.alloc.Global.{Global}
 use Rattle.std.specs.Prelude.{IsSomeAnd, is_some, option_map, slice_get}
 use Rattle.draid_area.specs.Area.{Content, IsOfSize, OnTold, flushes}
@@ -28,10 +28,12 @@ use Rattle.draid_uber.specs.declared.uber.Uber.{Uber}
 use Rattle.draid_session.specs.Opening.{layout_at_version}
 use Rattle.draid_session.specs.State.{Metaslab, State, limit_of}
 use Rattle.draid_pool.specs.Returning.{HoldsAreas, Rests, areas_told}
-use Rattle.draid_found.specs.Found.{AreFound}
 use Rattle.draid_import.specs.Found.{AreReopened, IsFoundUber, IsRecovered, OpensAllOver, OpensOver}
 use Rattle.draid_pool.specs.Importable.{IsImportable}
-use Rattle.draid_import.specs.Imported.{FindsBody, IsFoundOf, IsLastIn, IsNewestIn, OpensFound}
+use Rattle.draid_import.specs.Imported.{FindsBody, IsFoundOf, OpensFound}
+use Rattle.draid_import.specs.Points.{IsFoundBeside, KeepsPoint}
+use Rattle.draid_record.specs.Checks.{CheckTold, IsCheck}
+use Rattle.draid_record.specs.declared.fault.RecordFault.{RecordFault}
 use Rattle.draid_import.specs.Importing.{RestsThere}
 use Rattle.draid_pool.specs.Taking.{TakesFirst, takes_areas}
 use Rattle.draid_pool.specs.Pools.{part_in}
@@ -44,19 +46,6 @@ use Rattle.draid_import.proofs.ImportMetaslab.{FindsImage, opens_found}
 use Rattle.draid_import.proofs.ImportOpened.{rested}
 use Rattle.draid_import.proofs.ImportUber.{found_body, found_check, found_layout}
 use Rattle.draid_import.proofs.ImportVersion.{found_at, found_from, there_at}
-
--- ---- the blocks
-
-module _ {R A : Type 0} (shards : List (Shard R A)) (newest : ℕ → Option Pointer) (seq : ℕ) (f : AreFound shards newest seq) where
-  pub newest_found : IsNewestIn shards newest
-  newest_found = record {
-    own = λ object p is. (f.pointers object p is).object_is;
-    live = λ object p is. (let l = f.pointers object p is in (l.shard, l.there, l.live));
-    greatest = f.known;
-  }
-
-  pub last_found : IsLastIn shards seq
-  last_found = record { one = f.one; all = f.numbered }
 
 -- ---- the uberblock
 
@@ -207,27 +196,29 @@ module _ {R A : Type 0} (rack : racks.Ghosts R) (area : areas.Ghosts A) (x : Sta
   pub shards_found : (alloc : Global) (known : ℕ → Option Shape) (now : ℕ → KitCounts) (shards : List (Shard R A)) (newest : ℕ → Option Pointer) (seq : ℕ) → ((k : ℕ) → now k ≡ counts k)
       → AreReopened rack (layout_of uber) (group_of (kept_of uber)) shards
       → OpensAllOver rack area (limit_of (layout_of uber)) (group_of (kept_of uber)) (next_leaf_of uber) (takes_areas (Some held)) known now shards
-      → AreFound shards newest seq → IsFoundOf rack area x uber pieces newest seq shards
-  shards_found alloc known now shards newest seq counted re over blocks =
+      → (tells : Result CheckTold RecordFault → Type 0) (f : IsFoundBeside tells shards (group_of (kept_of uber)) 0 newest seq uber) → f.value ≡ check_told x.store.marks (group_of (kept_of uber)) → IsFoundOf rack area x uber pieces newest seq shards
+  shards_found alloc known now shards newest seq counted re over tells f value_is =
       let later = r.later in
       let own = there.uber in
       let low = found.low in
       let group = b.group in
       found_begins rack area x pieces uber newest seq held rests importable.findable importable.alike b.body b.finds shards
       (as_many_found shards re) (each_found alloc known now shards counted re over)
-      (omega (arith, later, own)) (last_found shards newest seq blocks) (newest_found shards newest seq blocks) (omega (arith, low, group)) found.valid b.kept b.version b.next b.own_areas found.point b.layout
+      (omega (arith, later, own)) f.last f.value (value_is ∙ ap (check_told x.store.marks) b.group) (subst (λ n. IsCheck n f.value) b.group f.range) f.checked.have f.newest_is
+      (subst (λ n. KeepsPoint n f.value shards newest 0 uber) b.group f.point) (omega (arith, low, group)) found.valid b.kept b.version b.next b.own_areas b.layout
 
 -- what the pool is made of, whatever the shelf tells
 pub pool_found : {R A : Type 0} (alloc : Global) (rack : racks.Ghosts R) (area : areas.Ghosts A) (x : State) (pieces : ℕ → Pieces) (o mid : Option Held) (leaves known : ℕ → Option Shape) (counts now : ℕ → KitCounts) (count : ℕ) (uber : Uber A)
     (shards : List (Shard R A)) (newest : ℕ → Option Pointer) (seq : ℕ) → RestsThere x pieces o leaves counts count → IsFoundUber area uber → (r : IsRecovered area o count uber)
     → ((k : ℕ) → now k ≡ counts k) → mid ≡ takes_areas o → AreReopened rack (layout_of uber) (group_of (kept_of uber)) shards
-    → OpensAllOver rack area (limit_of (layout_of uber)) (group_of (kept_of uber)) (next_leaf_of uber) mid known now shards → AreFound shards newest seq → IsFoundOf rack area x uber pieces newest seq shards
-pool_found alloc rack area x pieces None mid leaves known counts now count uber shards newest seq there found r counted taken re over blocks = absurd there.held
-pool_found alloc rack area x pieces (Some held) mid leaves known counts now count uber shards newest seq there found r counted taken re over blocks =
+    → OpensAllOver rack area (limit_of (layout_of uber)) (group_of (kept_of uber)) (next_leaf_of uber) mid known now shards → (tells : Result CheckTold RecordFault → Type 0) (f : IsFoundBeside tells shards (group_of (kept_of uber)) 0 newest seq uber) → f.value ≡ check_told x.store.marks (group_of (kept_of uber))
+    → IsFoundOf rack area x uber pieces newest seq shards
+pool_found alloc rack area x pieces None mid leaves known counts now count uber shards newest seq there found r counted taken re over tells b value_is = absurd there.held
+pool_found alloc rack area x pieces (Some held) mid leaves known counts now count uber shards newest seq there found r counted taken re over tells b value_is =
     let f = body_found area x pieces held leaves counts count uber there found r in
     found_from x f.version rack area uber pieces newest seq shards
     (shards_found rack area (found_at x f.version) pieces held leaves counts count f.there uber found r f.b alloc known now shards newest seq counted re
-    (subst (λ o. OpensAllOver rack area (limit_of (layout_of uber)) (group_of (kept_of uber)) (next_leaf_of uber) o known now shards) taken over) blocks)
+    (subst (λ o. OpensAllOver rack area (limit_of (layout_of uber)) (group_of (kept_of uber)) (next_leaf_of uber) o known now shards) taken over) tells b value_is)
 
 -- ---- the shelf
 

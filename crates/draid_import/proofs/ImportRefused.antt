@@ -19,7 +19,7 @@ use Rattle.draid_shelf.specs.Kits.{ChecksTold, Held, KitCounts, KitTold, puts_ch
 use Rattle.draid_stable.specs.Stable as stable
 use Rattle.draid_shard.specs.declared.shard.Shard.{Shard}
 use Rattle.draid_uber.specs.Checks.{AreasStand}
-use Rattle.draid_session.specs.Opening.{Finds, MayFind, Reopens}
+use Rattle.draid_session.specs.Opening.{DropsOlder, Finds, MayFind, Reopens}
 use Rattle.draid_session.specs.State.{Counts, Metaslab, State}
 use Rattle.draid_pool.specs.Returning.{Rests, RestsOn, SameCounts, areas_told, kit_in}
 use Rattle.draid_pool.specs.Groups.{ListsOnce}
@@ -32,6 +32,7 @@ use Rattle.draid_pool.proofs.Returned.{area_told, kit_is, rests_on}
 use Rattle.draid_import.proofs.ImportFound.{found_findable, found_holds, found_images, found_leaves, numbered_before}
 use Rattle.draid_import.proofs.ImportMetaslab.{FindsImage, counts_rise, found_image, unopened, unopened_reopens, unopened_rests}
 use Rattle.draid_import.proofs.ImportOpened.{all_reached, collect, finds_state}
+use Rattle.draid_import.proofs.ImportPoint.{stands_told, told_upto}
 use Rattle.draid_import.proofs.ImportUber.{found_kept}
 use Rattle.draid_import.proofs.ImportVersion.{LeavesFound}
 use Rattle.draid_pool.proofs.ImageLeaves.{leaves_there}
@@ -175,10 +176,10 @@ module _ (x : State) (pieces : ℕ → Pieces) (held : Held) (rests : Rests x pi
     shelved = collect x.metaslabs OnShelf on_shelf
 
     abbrev mid : State
-    mid = found_state x body.group body.next_leaf shelved.0 x.store.seq n
+    mid = found_state x body.group body.next_leaf shelved.0 (marks_upto body.group x.store.marks) x.store.seq n
 
     finds : Finds x body.group mid
-    finds = finds_state x body.group body.next_leaf shelved.0 x.store.seq n rests.objects.unmarked body_is.version body_is.may body_is.some body_is.leaf shelved.1 (λ m y z at there. (shelved.2 m y z at there).reopens) counted
+    finds = finds_state x body.group body.next_leaf shelved.0 (marks_upto body.group x.store.marks) [] x.store.seq n refl (All-nil (DropsOlder mid body.group)) body_is.version body_is.may body_is.some body_is.leaf shelved.1 (λ m y z at there. (shelved.2 m y z at there).reopens) counted
 
     reached : (m : ℕ) (y : Metaslab) → slice_get x.metaslabs m ≡ Some y → IsReached (layout_of x.geometry x.perms m) y.world
     reached = all_reached x pieces held rests
@@ -222,13 +223,14 @@ module _ (x : State) (pieces : ℕ → Pieces) (held : Held) (rests : Rests x pi
                 pending = [];
                 are = All-nil (IsPending mid);
                 stands = subst (λ (b : Option UberBody). AreasStand (check_told mid.store.marks) b [] (areas_told u k)) (sym (found_kept x mid body body_is refl refl refl refl))
-                    (subst (λ ms. AreasStand (check_told ms) (Some body) [] (areas_told u k)) (rests.objects.unmarked ∙ sym (ap (marks_upto body.group) rests.objects.unmarked)) stands);
+                    (stands_told (check_told x.store.marks) (check_told mid.store.marks) body (areas_told u k) (told_upto body.group x.store.marks body.group (omega arith)) stands);
               }));
           many = shelved.1 ∙ rests.many;
           kits = λ m z at. on_mid (new.kits m) m z (there m z at).1.kit;
           images = found_images x mid body.group pieces finds refl rests.layout rests.many reached rests.leaves findable rests.objects;
           leaves = found_leaves x mid body.group pieces finds refl rests.layout rests.many reached rests.leaves findable rests.objects;
           objects = found_holds x mid body.group pieces finds refl rests.layout rests.many reached rests.leaves findable rests.objects
+              refl
               (numbered_before x mid body.group pieces finds refl rests.layout rests.many reached rests.leaves findable rests.objects refl);
         };
         importable = record {

@@ -1,6 +1,6 @@
 -- The uberblock of a pool that rests on a shelf, as an import finds it.
-use Rattle.std.proofs.Common.{arith, ◌≡◌, ◌==◌, ◌≤◌, ◌∙◌, inl, inr, Bool, true, false, [], Option, Some, None, Result, Ok, Err, length, option_map, refl, sym, ap, subst, if◌then◌else◌}
-use Rattle.std.specs.Prelude.{MatchOption, ⊤}
+use Rattle.std.proofs.Common.{arith, ◌≡◌, ◌==◌, ◌<◌, ◌≤◌, ◌∙◌, inl, inr, ℕ, Bool, true, false, [], Option, Some, None, Result, Ok, Err, length, option_map, refl, sym, ap, subst, if◌then◌else◌}
+use Rattle.std.specs.Prelude.{◌↔◌, MatchOption, ⊤}
 use Rattle.std.proofs.lemmas.Bool.Decides.{nat_tests}
 use Rattle.std.proofs.lemmas.List.Elements.{All-contains, All-nil}
 use Rattle.draid_area.specs.Area.{Content, flushes}
@@ -15,7 +15,7 @@ use Rattle.draid_spec.proofs.Layouts.{given_layout}
 use Rattle.draid_shelf.specs.Kits.{ChecksTold}
 use Rattle.draid_uber.specs.Checks.{AreasStand, HasCheck, told_by}
 use Rattle.draid_uber.specs.Slots.{Chooses, IsLeft, chosen_of, read_body}
-use Rattle.draid_uber.specs.Uber.{Valid, areas_of, count_of, kept_of, layout_of, next_leaf_of, version_of, point_of}
+use Rattle.draid_uber.specs.Uber.{Valid, areas_of, count_of, kept_of, layout_of, next_leaf_of, version_of, changed_of, next_check}
 use Rattle.draid_uber.specs.declared.uber.Uber.{Uber}
 use Rattle.draid_uber.proofs.Imports.{import_takes}
 use Rattle.draid_uber.proofs.Recorded.{stand_alone, stand_still}
@@ -25,7 +25,8 @@ use Rattle.draid_session.specs.State.{State}
 use Rattle.draid_import.specs.Imported.{FindsBody}
 use Rattle.draid_pool.specs.Ubers.{IsPending, IsUber, UberStands, body_of, kept_in, check_told}
 use Rattle.draid_import.proofs.ImportVersion.{found_at, layout_at}
-use Rattle.draid_pool.proofs.Pointing.{none_kept}
+use Rattle.draid_import.proofs.ImportPoint.{stands_told}
+use Rattle.draid_session.specs.Points.{HasLateMark}
 
 abbrev Chosen : Type 0
 Chosen = Option (Result UberBody RecordFault)
@@ -192,20 +193,23 @@ module _ {A : Type 0} (area : areas.Ghosts A) (x mid : State) (uber : Uber A) (b
     (layout : layout_of uber ≡ x.geometry) where
   -- it is that of the state which is found with it
   pub found_uber : version_of uber ≡ body.props.version → next_leaf_of uber ≡ body.next_leaf → AreasStand (check_told x.store.marks) (kept_of uber) [] (told_by area.told (areas_of uber))
-      → (point_of uber).group ≡ None → x.store.marks ≡ [] → mid.store.marks ≡ [] → mid.geometry ≡ x.geometry → mid.committed ≡ body.group → mid.kept_leaf ≡ body.next_leaf → mid.next_leaf ≡ body.next_leaf → mid.uber_count ≡ count_of area.faults uber
+      → check_told mid.store.marks body.group ≡ check_told x.store.marks body.group → ((g : ℕ) → mid.committed < g → next_check uber g ≡ check_told mid.store.marks g)
+      → ((g : ℕ) → mid.committed ≤ g → HasLateMark g mid.store.marks ↔ (g < changed_of uber)) → mid.geometry ≡ x.geometry → mid.committed ≡ body.group → mid.kept_leaf ≡ body.next_leaf → mid.next_leaf ≡ body.next_leaf → mid.uber_count ≡ count_of area.faults uber
       → (mid.kept_version ≡ x.geometry.props.version) × (mid.next_version ≡ x.geometry.props.version) → IsUber area uber mid
-  found_uber version next stands point unmarked none geometry committed kept_leaf next_leaf count versions = record {
+  found_uber version next stands told point late geometry committed kept_leaf next_leaf count versions = record {
     valid = valid;
     layout = layout ∙ sym (λ i. layout_at_version (versions.0 i) (geometry i));
     version = version ∙ (ap (λ (b : UberBody). b.props.version) finds.is ∙ sym versions.1);
     kept = kept ∙ sym (found_kept x mid body finds geometry versions.0 committed kept_leaf);
     next_leaf = next ∙ sym next_leaf;
-    point = λ group late. none_kept (point_of uber) mid.store.marks group point none;
+    point = point;
+    late = late;
     count = count;
     stands = record {
       pending = [];
       are = All-nil (IsPending mid);
-      stands = subst (λ (k : Option UberBody). AreasStand (check_told mid.store.marks) k [] (told_by area.told (areas_of uber))) (kept ∙ sym (found_kept x mid body finds geometry versions.0 committed kept_leaf))
-          (subst (λ ms. AreasStand (check_told ms) (kept_of uber) [] (told_by area.told (areas_of uber))) (unmarked ∙ sym none) stands);
+      stands = subst (λ (k : Option UberBody). AreasStand (check_told mid.store.marks) k [] (told_by area.told (areas_of uber))) (sym (found_kept x mid body finds geometry versions.0 committed kept_leaf))
+          (stands_told (check_told x.store.marks) (check_told mid.store.marks) body (told_by area.told (areas_of uber)) told
+          (subst (λ (k : Option UberBody). AreasStand (check_told x.store.marks) k [] (told_by area.told (areas_of uber))) kept stands));
     };
   }

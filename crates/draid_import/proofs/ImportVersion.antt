@@ -106,7 +106,7 @@ module _ (x : State) (version : ℕ) where
   objects_at : (pieces : ℕ → Pieces) → HoldsObjects x.geometry x.committed x.store (blocks_of x.metaslabs) pieces → HoldsObjects at.geometry x.committed x.store (blocks_of x.metaslabs) pieces
   objects_at pieces h = record {
     stores = h.stores;
-    unmarked = h.unmarked;
+    positive = h.positive;
     floors = h.floors;
     settled = h.settled;
     numbered = h.numbered;
@@ -181,7 +181,6 @@ module _ (x : State) (version : ℕ) where
     drops = f.drops;
     marks = f.marks;
     drops_are = f.drops_are;
-    dropped = f.dropped;
     floor = f.floor;
     told = f.told;
   }

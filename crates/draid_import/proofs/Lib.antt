@@ -3,14 +3,17 @@ pub mod Findings
 pub mod Flushed
 pub mod Found
 pub mod ImportAlike
+pub mod ImportBeside
 pub mod ImportCheck
+pub mod ImportDrops
 pub mod ImportEnd
 pub mod ImportFaulty
+pub mod ImportFits
 pub mod ImportFound
 pub mod ImportFreed
 pub mod ImportLeft
 pub mod ImportMade
-pub mod ImportMarks
+pub mod ImportPoint
 pub mod ImportMetaslab
 pub mod ImportNewest
 pub mod ImportOlder
@@ -27,6 +30,7 @@ pub mod Once
 pub mod OneAnswer
 pub mod OneCheck
 pub mod Opened
+pub mod PointDrops
 pub mod Reopened
 pub mod Replied
 pub mod Unfound

@@ -38,7 +38,11 @@ use Rattle.draid_uber.specs.Uber.{kept_of, layout_of, next_leaf_of}
 use Rattle.draid_uber.specs.declared.uber.Uber.{Uber}
 use Rattle.draid_session.specs.Making.{vdev_name_of}
 use Rattle.draid_session.specs.State.{limit_of}
-use Rattle.draid_found.specs.Found.{AreFound}
+use Rattle.draid_found.specs.Drops.{AreNewestBeside}
+use Rattle.draid_record.specs.Checks.{CheckTold}
+use Rattle.draid_record.specs.declared.checks.Dropped.{Dropped}
+use Rattle.draid_import.specs.Checking.{HoldsCheck}
+use Rattle.draid_import.proofs.ImportCheck.{ok_value as check_value, one_told}
 use Rattle.draid_found.specs.Together.{AreApart, AreTogether, HasBlock, HasBlockTwice, HasEarlier, HasOtherArms, blocks_below, place_in}
 use Rattle.draid_shard.specs.Alike.{AreSameArms, HaveSameArms}
 use Rattle.draid_import.specs.Faulty.{AreReadApart, HoldsNoGroup, IsUnread, OneIsUnread, RecordIsBad, TellsBody}
@@ -387,17 +391,18 @@ module _ {R A : Type 0} (rack : racks.Ghosts R) (area : areas.Ghosts A) (geometr
       not_apart geometry.props.metaslabs shards v.shards (all_here shards are over) (all_here v.shards v.reopened v.over) a p k (subst (AreTogether shards) are.many together) v.apart
 
   -- an object that has a block in the ones has one in the others
-  pub same_objects : (ss ts : List (Shard R A)) (newest also : ℕ → Option Pointer) (seq too : ℕ) → AreReopened rack geometry group ss → OpensAllOver rack area (limit_of geometry) group next (Some y) leaves counts ss
-      → AreReopened rack geometry group ts → OpensAllOver rack area (limit_of geometry) group next (Some y) leaves counts ts → AreFound ss newest seq → AreFound ts also too
+  pub same_objects : (ss ts : List (Shard R A)) (newest also : ℕ → Option Pointer) → AreReopened rack geometry group ss → OpensAllOver rack area (limit_of geometry) group next (Some y) leaves counts ss
+      → AreReopened rack geometry group ts → OpensAllOver rack area (limit_of geometry) group next (Some y) leaves counts ts → (named : List Dropped) → AreNewestBeside ss named newest → AreNewestBeside ts named also
       → (object : ℕ) → IsSome (newest object) → IsSome (also object)
-  same_objects ss ts newest also seq too are over are' over' found found' object some = by (newest object) refl some
+  same_objects ss ts newest also are over are' over' named found found' object some = by (newest object) refl some
     where
       by : (o : Option Pointer) → newest object ≡ o → IsSome o → IsSome (also object)
       by None none some = absurd (cc)
       by (Some p) is some =
-          let to = found.pointers object p is in
+          let led = found.pointers object p is in
+          let to = led.0 in
           let t = twin geometry.props.metaslabs ts ss (all_here ts are' over') (all_here ss are over) p.metaslab to.shard to.there in
-          let reach = found'.known p.metaslab t.0 p.first (staged Live p) t.1 (sym (t.2.«at» p.first) ∙ to.live) in
+          let reach = found'.known p.metaslab t.0 p.first (staged Live p) t.1 (sym (t.2.«at» p.first) ∙ to.live) led.1 in
           subst IsSome (sym (ap also (sym to.object_is) ∙ reach.1)) refl
 
 -- ---- the law
@@ -459,10 +464,18 @@ module _ {R A : Type 0} (rack : racks.Ghosts R) (area : areas.Ghosts A) (x : Hel
             (subst (λ n. OpensAllOver rack area (limit_of (layout_of e.uber)) n (next_leaf_of f.uber) (takes_areas (Some x)) leaves counts e.shards) same.group
             (subst (λ n. OpensAllOver rack area (limit_of (layout_of e.uber)) (group_of (kept_of e.uber)) n (takes_areas (Some x)) leaves counts e.shards) same.next e.read.over))
 
+        -- one check record
+        one_check : f.read.blocks.value ≡ e.read.blocks.value
+        one_check = check_value f.read.blocks.value e.read.blocks.value (one_told (group_of (kept_of f.uber)) x (Ok f.read.blocks.value) (Ok e.read.blocks.value) f.read.blocks.checked.read
+            (subst (λ n. HoldsCheck n (Some x) (Ok e.read.blocks.value)) same.group e.read.blocks.checked.read))
+
+        newest_also : AreNewestBeside e.shards f.read.blocks.value.drops e.newest
+        newest_also = subst (λ (v : CheckTold). AreNewestBeside e.shards v.drops e.newest) (sym one_check) e.read.blocks.newest_is
+
         there : (object : ℕ) → Contains f.names.names object → Contains e.names.names object
-        there object c = (e.names.each object).1 (same_objects rack area (layout_of f.uber) (group_of (kept_of f.uber)) (next_leaf_of f.uber) (puts_checks None (puts_uber None x)) leaves counts known f.shards e.shards f.newest e.newest f.seq e.seq
-            f.read.reopened f.read.over reopened over f.read.blocks e.read.blocks object ((f.names.each object).0 c))
+        there object c = (e.names.each object).1 (same_objects rack area (layout_of f.uber) (group_of (kept_of f.uber)) (next_leaf_of f.uber) (puts_checks None (puts_uber None x)) leaves counts known f.shards e.shards f.newest e.newest
+            f.read.reopened f.read.over reopened over f.read.blocks.value.drops f.read.blocks.newest_is newest_also object ((f.names.each object).0 c))
 
         back : (object : ℕ) → Contains e.names.names object → Contains f.names.names object
-        back object c = (f.names.each object).1 (same_objects rack area (layout_of f.uber) (group_of (kept_of f.uber)) (next_leaf_of f.uber) (puts_checks None (puts_uber None x)) leaves counts known e.shards f.shards e.newest f.newest e.seq f.seq
-            reopened over f.read.reopened f.read.over e.read.blocks f.read.blocks object ((e.names.each object).0 c))
+        back object c = (f.names.each object).1 (same_objects rack area (layout_of f.uber) (group_of (kept_of f.uber)) (next_leaf_of f.uber) (puts_checks None (puts_uber None x)) leaves counts known e.shards f.shards e.newest f.newest
+            reopened over f.read.reopened f.read.over f.read.blocks.value.drops newest_also f.read.blocks.newest_is object ((e.names.each object).0 c))

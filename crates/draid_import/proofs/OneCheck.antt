@@ -1,6 +1,5 @@
 -- On a shelf that tells what it holds, and knows its leaves, the check record has one fault, or none; and where it has one, nothing else is found.
-use Rattle.std.proofs.Common.{arith, ◌≡◌, ◌+◌, ◌*◌, ◌<◌, ◌≤◌, ◌∙◌, ◌⊎◌, inl, inr, ℕ, List, Option, Some, None, Result, Ok, Err, length, sym, ap, subst}
-use Rattle.std.specs.Prelude.{slice_get}
+use Rattle.std.proofs.Common.{arith, ◌≡◌, ◌+◌, ◌*◌, ◌<◌, ◌≤◌, ◌∙◌, ◌⊎◌, inl, inr, ℕ, List, Option, Some, None, Ok, Err, sym, ap, subst}
 use Rattle.std.proofs.lemmas.Bool.{cases_eq, cases_lt}
 use Rattle.draid_area.specs.declared.Area as areas
 use Rattle.draid_rack.specs.Rack.{Shape}
@@ -29,10 +28,10 @@ use Rattle.draid_import.proofs.OneAnswer.{IsSameUber, all_here, no_fault, none_c
 -- ---- metaslabs with the same blocks
 
 module _ {R A : Type 0} (group : ℕ) (x : Held) (ss ts : List (Shard R A)) (there : (upto : ℕ) (key : Key) → HaveBorn ss upto key → HaveBorn ts upto key) where
-  not_bad : (p : ℕ) (k : RecordFaultKind) → IsChecked (HoldsCheck group (Some x)) ss → IsBadCheck (HoldsCheck group (Some x)) ts p k → ⊥
-  not_bad p k c (inl bad) = ok_bad c.value (Bad p k) (one_told group x (Ok c.value) (Err (Bad p k)) c.read bad)
-  not_bad p k c (inr n) =
-      let same : c.value ≡ n.value = ok_value c.value n.value (one_told group x (Ok c.value) (Ok n.value) c.read n.read) in
+  not_bad : (value : CheckTold) (p : ℕ) (k : RecordFaultKind) → IsChecked (HoldsCheck group (Some x)) ss value → IsBadCheck (HoldsCheck group (Some x)) ts p k → ⊥
+  not_bad value p k c (inl bad) = ok_bad value (Bad p k) (one_told group x (Ok value) (Err (Bad p k)) c.read bad)
+  not_bad value p k c (inr n) =
+      let same : value ≡ n.value = ok_value value n.value (one_told group x (Ok value) (Ok n.value) c.read n.read) in
       n.lack.lack (there n.value.group (key_in n.lack.named) (subst (λ (v : CheckTold). HaveNamed ss v.group v.drops) same c.have n.i n.lack.named n.lack.there))
 
   -- what the ones lack first isn't behind what the others lack
@@ -94,7 +93,7 @@ module _ {R A : Type 0} (rack : racks.Ghosts R) (area : areas.Ghosts A) (x : Hel
         let same = one_uber area x f.uber bad.uber r.found bad.found r.body bad.body in
         not_bad (group_of (kept_of f.uber)) x f.shards bad.shards
         (same_born rack area (layout_of f.uber) (group_of (kept_of f.uber)) (next_leaf_of f.uber) (puts_checks None (puts_uber None x)) leaves counts known f.shards bad.shards r.reopened r.over
-        (turns_reopened f.uber bad.uber same bad.shards bad.reopened) (turns_over f.uber bad.uber same bad.shards bad.over)) p k r.checked (turns_check f.uber bad.uber same bad.shards p k bad.bad)
+        (turns_reopened f.uber bad.uber same bad.shards bad.reopened) (turns_over f.uber bad.uber same bad.shards bad.over)) r.blocks.value p k r.blocks.checked (turns_check f.uber bad.uber same bad.shards p k bad.bad)
 
     pub fault_no_check : (a : Option ℕ) (q : ℕ) (l : RecordFaultKind) (p : ℕ) (k : RecordFaultKind) → RecordIsBad rack area (Some x) leaves counts a q l → CheckIsBad rack area (Some x) leaves counts p k → ⊥
     fault_no_check a q l p k (inl ill) bad = ok_err bad.body.body (Bad q l) (one_chosen x.uber (Some (Ok bad.body.body)) (Some (Err (Bad q l))) bad.body.chosen ill.bad)

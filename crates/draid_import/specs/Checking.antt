@@ -1,5 +1,5 @@
 -- The check record of the group that an import finds, and its first fault.
-use Rattle.std.specs.Prelude.{◌≡◌, ◌==◌, ◌+◌, ◌*◌, ◌%◌, ◌≤◌, ◌⊎◌, ⊤, ℕ, List, Option, Result, Ok, Err, IsErrOf, IsSomeAnd, if◌then◌else◌, length}
+use Rattle.std.specs.Prelude.{◌≡◌, ◌==◌, ◌+◌, ◌*◌, ◌%◌, ◌<◌, ◌≤◌, ◌⊎◌, ⊤, ℕ, List, Option, Result, Ok, Err, IsErrOf, IsSomeAnd, if◌then◌else◌, length}
 use Rattle.draid_area.specs.Area.{OnTold}
 use Rattle.draid_area.specs.declared.Area as areas
 use Rattle.draid_rack.specs.Rack.{Shape}
@@ -14,7 +14,7 @@ use Rattle.draid_shard.specs.declared.shard.Shard.{Shard}
 use Rattle.draid_uber.specs.Checks.{check_area, check_in, told_by}
 use Rattle.draid_uber.specs.Slots.{group_of}
 use Rattle.draid_uber.specs.Uber as ubers
-use Rattle.draid_uber.specs.Uber.{area_of, areas_of, count_of, kept_of, layout_of, next_leaf_of, version_of, point_of}
+use Rattle.draid_uber.specs.Uber.{area_of, areas_of, count_of, kept_of, layout_of, next_leaf_of, version_of}
 use Rattle.draid_uber.specs.declared.uber.Uber.{Uber}
 use Rattle.draid_uber.specs.declared.checks.CheckFault.{CheckFault}
 use Rattle.draid_uber.specs.declared.checks.CheckFault.TheVariants as check_fault
@@ -41,7 +41,7 @@ HoldsCheck group held answer = OnHeld held (λ x. IsSomeAnd x.checks (λ checks.
 abbrev pub OwnCheck : {A : Type 0} → areas.Ghosts A → Uber A → Result CheckTold RecordFault → Type 0
 OwnCheck area uber answer = OnTold (area.told (check_area (areas_of uber) (group_of (kept_of uber)))) (λ x. check_in (group_of (kept_of uber)) x.bytes ≡ answer)
 
--- The areas of an uberblock were read: what is known of it is as it was, and no count fell.
+-- The areas of an uberblock were read: what is known of it but for its checkpoint is as it was, and no count fell.
 pub record KeepsUber {A : Type 0} (area : areas.Ghosts A) (old new : Uber A) : Type 0 where
   pub valid : ubers.Valid area.size new
   pub told : told_by area.told (areas_of new) ≡ told_by area.told (areas_of old)
@@ -49,7 +49,6 @@ pub record KeepsUber {A : Type 0} (area : areas.Ghosts A) (old new : Uber A) : T
   pub kept : kept_of new ≡ kept_of old
   pub layout : layout_of new ≡ layout_of old
   pub version : version_of new ≡ version_of old
-  pub point : point_of new ≡ point_of old
   pub leaf : next_leaf_of new ≡ next_leaf_of old
   pub later : count_of area.faults old ≤ count_of area.faults new
 
@@ -57,15 +56,15 @@ pub record KeepsUber {A : Type 0} (area : areas.Ghosts A) (old new : Uber A) : T
 
 module _ {R A : Type 0} (tells : Result CheckTold RecordFault → Type 0) (shards : List (Shard R A)) where
   -- It has no fault, and the metaslabs have the blocks that it names, each born up to the checkpoint.
-  pub record IsChecked : Type 0 where
-    pub value : CheckTold
+  pub record IsChecked (value : CheckTold) : Type 0 where
     pub read : tells (Ok value)
     pub have : HaveNamed shards value.group value.drops
 
-  -- it has no fault but that they lack a block which it names: this is the first
+  -- it has no fault, and tells of a checkpoint, but they lack a block which it names: this is the first
   pub record NamesLack (place : ℕ) (kind : RecordFaultKind) : Type 0 where
     pub value : CheckTold
     pub read : tells (Ok value)
+    pub some : 0 < value.group
     pub i : ℕ
     pub lack : LackNamed shards value.group value.drops i
     pub place_is : place ≡ 30 + 16 * i

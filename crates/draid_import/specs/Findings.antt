@@ -15,23 +15,23 @@ use Rattle.draid_stable.specs.Images.{image_by}
 use Rattle.draid_stable.specs.Stable as stable
 use Rattle.draid_shard.specs.declared.shard.Shard.{Shard}
 use Rattle.draid_uber.specs.Slots.{group_of}
-use Rattle.draid_uber.specs.Uber.{kept_of, layout_of, next_leaf_of}
+use Rattle.draid_uber.specs.Uber.{kept_of, layout_of, next_leaf_of, point_of}
 use Rattle.draid_uber.specs.declared.uber.Uber.{Uber}
 use Rattle.draid_session.specs.Making.{vdev_name_of}
 use Rattle.draid_session.specs.State.{limit_of}
-use Rattle.draid_found.specs.Found.{AreFound}
 use Rattle.draid_found.specs.Together.{AreTogether}
-use Rattle.draid_import.specs.Checking.{HoldsCheck, IsChecked}
+use Rattle.draid_import.specs.Checking.{HoldsCheck}
 use Rattle.draid_import.specs.Faulty.{TellsBody}
 use Rattle.draid_import.specs.Found.{AreFreed, AreReopened, IsFoundUber, IsRecovered, OpensAllOver, SameButFlushed}
-use Rattle.draid_import.specs.Imported.{AreNewest}
+use Rattle.draid_import.specs.Imported.{AreLeft}
+use Rattle.draid_import.specs.Points.{IsFoundBeside}
 use Rattle.draid_pool.specs.declared.pool.Pool.{Pool}
 use Rattle.draid_pool.specs.Pools.{HasNames}
 
 -- ---- a pool
 
 -- What is read of a pool that a shelf holds: its uberblock names a group; each metaslab is opened from its record of the group, on what the shelf held for it; they
--- are those of one pool; of each object there is the newest block; and they have the blocks that the group's check record names.
+-- are those of one pool; and beside the group's check record of each object there is the newest block, and the uberblock keeps the checkpoint.
 pub record IsRead {R A : Type 0} (rack : racks.Ghosts R) (area : areas.Ghosts A) (held : Option Held) (leaves : ℕ → Option Shape) (counts : ℕ → KitCounts) (uber : Uber A) (shards : List (Shard R A))
     (newest : ℕ → Option Pointer) (seq : ℕ) : Type 0 where
   pub found : IsFoundUber area uber
@@ -39,18 +39,17 @@ pub record IsRead {R A : Type 0} (rack : racks.Ghosts R) (area : areas.Ghosts A)
   pub reopened : AreReopened rack (layout_of uber) (group_of (kept_of uber)) shards
   pub over : OpensAllOver rack area (limit_of (layout_of uber)) (group_of (kept_of uber)) (next_leaf_of uber) (takes_areas held) leaves counts shards
   pub together : AreTogether shards (length shards)
-  pub blocks : AreFound shards newest seq
-  pub checked : IsChecked (HoldsCheck (group_of (kept_of uber)) held) shards
+  pub blocks : IsFoundBeside (HoldsCheck (group_of (kept_of uber)) held) shards (group_of (kept_of uber)) 0 newest seq uber
 
--- A pool is made of these: it has the uberblock's layout, and of the metaslabs' blocks just the newest of each object are live.
+-- A pool is made of these: it has the uberblock's layout, and of the metaslabs' blocks just the newest of each object and those that the checkpoint keeps are live.
 pub record IsMadeOf {R A : Type 0} (rack : racks.Ghosts R) (shards : List (Shard R A)) (uber : Uber A) (newest : ℕ → Option Pointer) (seq : ℕ) (pool : Pool R A) : Type 0 where
   pub uber_is : pool.uber ≡ uber
   pub layout : pool.geometry ≡ layout_of uber
   pub objects : (object : ℕ) → get nat_eq pool.own.objects object ≡ newest object
   pub seq_is : pool.own.seq ≡ seq
   pub floor : pool.own.floor ≡ group_of (kept_of uber) + 1
-  pub freed : AreFreed rack newest shards pool.metaslabs.shards.items
-  pub only : AreNewest pool.metaslabs.shards.items newest
+  pub freed : AreFreed rack newest (point_of uber).group shards pool.metaslabs.shards.items
+  pub only : AreLeft pool.metaslabs.shards.items newest (point_of uber).group
 
 -- a pool is what was read of a shelf
 pub record IsReadPool {R A : Type 0} (rack : racks.Ghosts R) (area : areas.Ghosts A) (held : Option Held) (leaves : ℕ → Option Shape) (counts : ℕ → KitCounts) (uber_count : ℕ) (pool : Pool R A) : Type 0 where

@@ -27,7 +27,7 @@ use Rattle.draid_session.specs.State.{Metaslab, State, limit_of}
 use Rattle.draid_import.specs.declared.fault.ImportFault.{ImportFault}
 use Rattle.draid_import.specs.declared.fault.ImportFault.TheVariants as fault
 use Rattle.draid_pool.specs.Returning.{TakesBack}
-use Rattle.draid_import.specs.Imported.{IsFoundOf}
+use Rattle.draid_import.specs.Imported.{IsFoundOf, Stays}
 use Rattle.draid_pool.specs.Metaslabs.{IsMetaslab}
 use Rattle.draid_pool.specs.Shards.{FreesIn, Goes}
 use Rattle.draid_shard.specs.Looks.{IsLive}
@@ -176,7 +176,6 @@ NoRecord result = (metaslab : Option ℕ) (place : ℕ) (kind : RecordFaultKind)
 pub record IsFoundUber {A : Type 0} (area : areas.Ghosts A) (uber : Uber A) : Type 0 where
   pub valid : ubers.Valid area.size uber
   pub version : version_of uber ≡ (layout_of uber).props.version
-  pub point : (point_of uber).group ≡ None
   pub some : 1 ≤ group_of (kept_of uber)
   pub low : group_of (kept_of uber) < LAST_NUMBER
 
@@ -224,38 +223,38 @@ abbrev pub FreesAt : {R A : Type 0} → racks.Ghosts R → areas.Ghosts A → Po
 FreesAt rack area pointer floor group old new = (part : Part) (pieces : Pieces) (x : Metaslab) → IsMetaslab rack area part pieces old x
     → Goes rack area part pieces x new (FreesIn part.number pointer floor group x)
 
--- a live block was freed, unless it is its object's newest
-pub record FreesIfOlder {R A : Type 0} (rack : racks.Ghosts R) (area : areas.Ghosts A) (newest : ℕ → Option Pointer) (pointer : Pointer) (floor : ℕ) (old new : Shard R A) : Type 0 where
+-- a live block was freed, unless it is its object's newest, or the checkpoint keeps it
+pub record FreesIfOlder {R A : Type 0} (rack : racks.Ghosts R) (area : areas.Ghosts A) (newest : ℕ → Option Pointer) (own : Option ℕ) (pointer : Pointer) (floor : ℕ) (old new : Shard R A) : Type 0 where
   pub valid : Valid rack new
   pub part : part_of new ≡ part_of old
   pub open_group_is : new.open_group ≡ old.open_group
-  pub done : ((newest pointer.object ≡ Some pointer) × (new ≡ old))
-      ⊎ ((newest pointer.object ≡ Some pointer → ⊥) × ((group : ℕ) × SetsBlock old new pointer (Some (staged (Freed group) pointer)) × FreesAt rack area pointer floor group old new))
+  pub done : (Stays newest own pointer × (new ≡ old))
+      ⊎ ((Stays newest own pointer → ⊥) × ((group : ℕ) × SetsBlock old new pointer (Some (staged (Freed group) pointer)) × FreesAt rack area pointer floor group old new))
 
--- Blocks of a metaslab were freed, but for those that are kept in mind.
-pub record FreesOlder {R A : Type 0} (rack : racks.Ghosts R) (newest : ℕ → Option Pointer) (old new : Shard R A) : Type 0 where
+-- Blocks of a metaslab were freed, but for those that stay.
+pub record FreesOlder {R A : Type 0} (rack : racks.Ghosts R) (newest : ℕ → Option Pointer) (own : Option ℕ) (old new : Shard R A) : Type 0 where
   pub valid : Valid rack new
   pub part : part_of new ≡ part_of old
   pub committed : new.committed ≡ old.committed
   pub slots : KeepsArms old.slots new.slots
-  pub kept : (object : ℕ) (p : Pointer) → newest object ≡ Some p → p.object ≡ object → IsLive old p → IsLive new p
+  pub kept : (p : Pointer) → Stays newest own p → IsLive old p → IsLive new p
   pub blocks : (first : ℕ) (e : Entry) → entry_at new.entries first ≡ Some e
       → (is_block e.stage ≡ true) × ((e' : Entry) × (entry_at old.entries first ≡ Some e') × (e'.pointer ≡ e.pointer))
 
 -- so in each of some metaslabs
-pub record AreFreed {R A : Type 0} (rack : racks.Ghosts R) (newest : ℕ → Option Pointer) (old new : List (Shard R A)) : Type 0 where
+pub record AreFreed {R A : Type 0} (rack : racks.Ghosts R) (newest : ℕ → Option Pointer) (own : Option ℕ) (old new : List (Shard R A)) : Type 0 where
   pub many : length new ≡ length old
-  pub each : (m : ℕ) (shard : Shard R A) → slice_get new m ≡ Some shard → (before : Shard R A) × (slice_get old m ≡ Some before) × FreesOlder rack newest before shard
+  pub each : (m : ℕ) (shard : Shard R A) → slice_get new m ≡ Some shard → (before : Shard R A) × (slice_get old m ≡ Some before) × FreesOlder rack newest own before shard
 
--- no block of a shard is live but the newest of its object
-abbrev pub HasOnly : {R A : Type 0} → (ℕ → Option Pointer) → Shard R A → Type 0
-HasOnly newest shard = (first : ℕ) (e : Entry) → entry_at shard.entries first ≡ Some e → e.stage ≡ Live → newest e.pointer.object ≡ Some e.pointer
+-- no block of a shard is live but those that stay
+abbrev pub HasOnly : {R A : Type 0} → (ℕ → Option Pointer) → Option ℕ → Shard R A → Type 0
+HasOnly newest own shard = (first : ℕ) (e : Entry) → entry_at shard.entries first ≡ Some e → e.stage ≡ Live → Stays newest own e.pointer
 
--- What was found in some shards is found in others, whose uberblock names the group before a floor.
-abbrev pub KeepsFound : {R A : Type 0} → racks.Ghosts R → areas.Ghosts A → (ℕ → Option Pointer) → (floor : ℕ) → List (Shard R A) → List (Shard R A) → Type 0
-KeepsFound {R} {A} rack area newest floor old new = (x : State) (uber : Uber A) (pieces : ℕ → Pieces) (seq : ℕ) → floor ≡ group_of (kept_of uber) + 1
+-- What was found in some shards is found in others, whose uberblock names the group before a floor, and keeps a checkpoint of this group.
+abbrev pub KeepsFound : {R A : Type 0} → racks.Ghosts R → areas.Ghosts A → (ℕ → Option Pointer) → Option ℕ → (floor : ℕ) → List (Shard R A) → List (Shard R A) → Type 0
+KeepsFound {R} {A} rack area newest own floor old new = (x : State) (uber : Uber A) (pieces : ℕ → Pieces) (seq : ℕ) → (point_of uber).group ≡ own → floor ≡ group_of (kept_of uber) + 1
     → IsFoundOf rack area x uber pieces newest seq old → IsFoundOf rack area x uber pieces newest seq new
 
 -- so with another shard for one of them
-abbrev pub KeepsFoundAt : {R A : Type 0} → racks.Ghosts R → areas.Ghosts A → (ℕ → Option Pointer) → (floor : ℕ) → Shard R A → Shard R A → Type 0
-KeepsFoundAt {R} {A} rack area newest floor old new = (m : ℕ) (shards : List (Shard R A)) → slice_get shards m ≡ Some old → KeepsFound rack area newest floor shards (slice_set shards m new)
+abbrev pub KeepsFoundAt : {R A : Type 0} → racks.Ghosts R → areas.Ghosts A → (ℕ → Option Pointer) → Option ℕ → (floor : ℕ) → Shard R A → Shard R A → Type 0
+KeepsFoundAt {R} {A} rack area newest own floor old new = (m : ℕ) (shards : List (Shard R A)) → slice_get shards m ≡ Some old → KeepsFound rack area newest own floor shards (slice_set shards m new)

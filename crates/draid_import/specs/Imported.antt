@@ -11,7 +11,8 @@ use Rattle.draid_machine.specs.declared.names.Key.{Key}
 use Rattle.draid_machine.specs.declared.names.Stage.TheVariants.{Live}
 use Rattle.draid_machine.specs.Images.{IsImage}
 use Rattle.draid_machine.specs.State as machine
-use Rattle.draid_objects.specs.Marks.{marks_upto}
+use Rattle.draid_objects.specs.Marks.{Mark, check_by, counted, is_dropped}
+use Rattle.draid_checkpoint.specs.Check.{holds_birth}
 use Rattle.draid_objects.specs.Blocks.{Blocks, SaysOf}
 use Rattle.draid_objects.specs.Changes.{upto, write_of}
 use Rattle.draid_record.specs.declared.uber.UberBody.{UberBody}
@@ -23,14 +24,16 @@ use Rattle.draid_stable.specs.Stable as stable
 use Rattle.draid_entries.specs.declared.entry.Entry.{Entry}
 use Rattle.draid_entries.specs.Entries.{entry_at}
 use Rattle.draid_entries.specs.Maps.{held_at, key_of, staged}
-use Rattle.draid_shard.specs.Looks.{IsLive}
 use Rattle.draid_pool.specs.Groups.{ListsOnce}
 use Rattle.draid_shard.specs.declared.shard.Shard.{Shard}
+use Rattle.draid_uber.specs.Uber.{point_of}
 use Rattle.draid_uber.specs.declared.uber.Uber.{Uber}
 use Rattle.draid_session.specs.Follows.{Follows}
 use Rattle.draid_session.specs.Holds.{Hold}
 use Rattle.draid_session.specs.Opening.{Finds, Frees, FreesOlder, IsLastSeq, LeafIn, MayFind, Reopens, VersionIn}
+use Rattle.draid_session.specs.Points.{IsPointOf, KeepsBirth}
 use Rattle.draid_session.specs.State.{Metaslab, State}
+use Rattle.draid_found.specs.Found.{LeadsTo}
 use Rattle.draid_pool.specs.Returning.{RestsOn, SameCounts}
 use Rattle.draid_pool.specs.Importable.{AllAlike, HasImageLeaves, HasPoolVersions, Shared}
 use Rattle.draid_pool.specs.Metaslabs.{IsMetaslab}
@@ -72,13 +75,13 @@ pub record RestsFound (x : State) (group m : ℕ) (pieces : Pieces) (y : Metasla
   pub once : (image : machine.Image) → IsImage z.world image → ListsOnce x.geometry m image (stable.area_of image.group kit.even kit.odd)
   pub leaves : (image : machine.Image) → IsImage z.world image → IsSomeAnd known (HasImageLeaves x.geometry image)
 
--- the state that a group and its number of the next leaf give, with these metaslabs
-abbrev pub found_state : State → (group next : ℕ) → List Metaslab → (seq uber_count : ℕ) → State
-found_state x group next metaslabs seq uber_count = record {
+-- the state that a group and its number of the next leaf give, with these metaslabs and marks
+abbrev pub found_state : State → (group next : ℕ) → List Metaslab → List Mark → (seq uber_count : ℕ) → State
+found_state x group next metaslabs marks seq uber_count = record {
   geometry = x.geometry;
   perms = x.perms;
   metaslabs = metaslabs;
-  store = record { changes = upto group x.store.changes; marks = marks_upto group x.store.marks; seq = seq; floor = group + 1 };
+  store = record { changes = upto group x.store.changes; marks = marks; seq = seq; floor = group + 1 };
   committed = group;
   kept_leaf = next;
   next_leaf = next;
@@ -110,9 +113,13 @@ pub record StandsFound {R A : Type 0} (rack : racks.Ghosts R) (area : areas.Ghos
   pub open_groups : (m : ℕ) (y : Metaslab) → slice_get x.metaslabs m ≡ Some y → y.world.open_group ≡ x.committed + 1
   pub floor : x.store.floor ≡ x.committed + 1
 
--- what the blocks of a state say of its objects is what befell them
+-- the blocks of a state that the checkpoint doesn't keep alone
+abbrev pub counted_of : State → Blocks
+counted_of x = counted (check_by x.store.marks) (blocks_of x.metaslabs)
+
+-- what they say of its objects is what befell these
 abbrev pub SaysObjects : State → Type 0
-SaysObjects x = (object : ℕ) → SaysOf (blocks_of x.metaslabs) object (write_of x.store.changes object)
+SaysObjects x = (object : ℕ) → SaysOf (counted_of x) object (write_of x.store.changes object)
 
 -- Of the blocks of a found state some were freed that have later ones, and shards stand for the state that this gave.
 pub record FreedOlder {R A : Type 0} (rack : racks.Ghosts R) (area : areas.Ghosts A) (mid : State) (shards : List (Shard R A)) (uber : Uber A) (pieces : ℕ → Pieces) : Type 0 where
@@ -128,23 +135,24 @@ pub record FreedOlder {R A : Type 0} (rack : racks.Ghosts R) (area : areas.Ghost
 
 -- ---- the newest blocks
 
--- for each object of which a block is in the shards a table has a block of it, and none has a greater number
-pub record IsNewestIn {R A : Type 0} (shards : List (Shard R A)) (newest : ℕ → Option Pointer) : Type 0 where
-  pub own : (object : ℕ) (p : Pointer) → newest object ≡ Some p → p.object ≡ object
-  pub live : (object : ℕ) (p : Pointer) → newest object ≡ Some p → (shard : Shard R A) × (slice_get shards p.metaslab ≡ Some shard) × IsLive shard p
-  pub greatest : (m : ℕ) (shard : Shard R A) (first : ℕ) (e : Entry) → slice_get shards m ≡ Some shard → entry_at shard.entries first ≡ Some e
-      → (p : Pointer) × (newest e.pointer.object ≡ Some p) × (e.pointer.seq ≤ p.seq)
+-- a table has pointers of live blocks
+abbrev pub HasPointers : {R A : Type 0} → List (Shard R A) → (ℕ → Option Pointer) → Type 0
+HasPointers shards newest = (object : ℕ) (p : Pointer) → newest object ≡ Some p → LeadsTo shards object p
 
--- so by the blocks of a state
+-- a block stays: it is its object's newest, or the checkpoint of this group keeps it
+abbrev pub Stays : (ℕ → Option Pointer) → Option ℕ → Pointer → Type 0
+Stays newest own p = (newest p.object ≡ Some p) ⊎ (holds_birth own p.birth ≡ true)
+
+-- for each object of which there is a block a table has a block of it, and none has a greater number
 pub record IsNewestOf (blocks : Blocks) (newest : ℕ → Option Pointer) : Type 0 where
   pub own : (object : ℕ) (p : Pointer) → newest object ≡ Some p → p.object ≡ object
   pub there : (object : ℕ) (p : Pointer) → newest object ≡ Some p → blocks p.metaslab (key_of p) ≡ Some (held_at (staged Live p))
   pub greatest : (m : ℕ) (k : Key) (h : Block) → blocks m k ≡ Some h → (p : Pointer) × (newest k.object ≡ Some p) × (k.seq ≤ p.seq)
 
--- no block is live but the newest of each object
-abbrev pub AreNewest : {R A : Type 0} → List (Shard R A) → (ℕ → Option Pointer) → Type 0
-AreNewest {R} {A} shards newest = (m : ℕ) (shard : Shard R A) (first : ℕ) (e : Entry) → slice_get shards m ≡ Some shard → entry_at shard.entries first ≡ Some e → e.stage ≡ Live
-    → newest e.pointer.object ≡ Some e.pointer
+-- no block is live but those that stay
+abbrev pub AreLeft : {R A : Type 0} → List (Shard R A) → (ℕ → Option Pointer) → Option ℕ → Type 0
+AreLeft {R} {A} shards newest own = (m : ℕ) (shard : Shard R A) (first : ℕ) (e : Entry) → slice_get shards m ≡ Some shard → entry_at shard.entries first ≡ Some e → e.stage ≡ Live
+    → Stays newest own e.pointer
 
 -- the greatest number of a block in the shards, 0 where there is none
 pub record IsLastIn {R A : Type 0} (shards : List (Shard R A)) (seq : ℕ) : Type 0 where
@@ -153,12 +161,17 @@ pub record IsLastIn {R A : Type 0} (shards : List (Shard R A)) (seq : ℕ) : Typ
 
 -- ---- the objects of what was found
 
--- Of a found state: its blocks are live and store what befell the objects, which they say; and a table has the newest block of each object.
-pub record KnowsObjects (mid : State) (pieces : ℕ → Pieces) (newest : ℕ → Option Pointer) : Type 0 where
+-- Of a found state: its blocks are live and store what befell the objects, which those say that count; and a table has the newest of these of each object. Its checkpoint is of this group, and keeps
+-- what it keeps alone; and what it keeps it keeps alone, but for the blocks of the table.
+pub record KnowsObjects (mid : State) (pieces : ℕ → Pieces) (newest : ℕ → Option Pointer) (own : Option ℕ) : Type 0 where
   pub says : SaysObjects mid
   pub holds : HoldsObjects mid.geometry mid.committed mid.store (blocks_of mid.metaslabs) pieces
   pub live : (m : ℕ) (k : Key) (h : Block) → blocks_of mid.metaslabs m k ≡ Some h → h.stage ≡ Live
-  pub newest_is : IsNewestOf (blocks_of mid.metaslabs) newest
+  pub newest_is : IsNewestOf (counted_of mid) newest
+  pub point : IsPointOf mid.store.marks own
+  pub kept : (m : ℕ) (k : Key) (h : Block) → blocks_of mid.metaslabs m k ≡ Some h → is_dropped (check_by mid.store.marks) k ≡ true → KeepsBirth mid.store.marks h.birth
+  pub dropped : (m : ℕ) (k : Key) (h : Block) → blocks_of mid.metaslabs m k ≡ Some h → KeepsBirth mid.store.marks h.birth
+      → (is_dropped (check_by mid.store.marks) k ≡ true) ⊎ ((p : Pointer) × (newest k.object ≡ Some p) × (key_of p ≡ k))
 
 -- A group of a state was found, with the objects of its metaslabs, and shards stand for what it gives, of which older blocks may be freed.
 pub record IsFoundOf {R A : Type 0} (rack : racks.Ghosts R) (area : areas.Ghosts A) (x : State) (uber : Uber A) (pieces : ℕ → Pieces) (newest : ℕ → Option Pointer) (seq : ℕ) (shards : List (Shard R A)) : Type 0 where
@@ -167,5 +180,5 @@ pub record IsFoundOf {R A : Type 0} (rack : racks.Ghosts R) (area : areas.Ghosts
   pub finds : Finds x group mid
   pub last : IsLastSeq mid mid.store.seq
   pub seq_is : mid.store.seq ≡ seq
-  pub knows : KnowsObjects mid pieces newest
+  pub knows : KnowsObjects mid pieces newest (point_of uber).group
   pub freed : FreedOlder rack area mid shards uber pieces

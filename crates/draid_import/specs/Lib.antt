@@ -4,5 +4,6 @@ pub mod Findings
 pub mod Found
 pub mod Imported
 pub mod Importing
+pub mod Points
 pub mod Reopening
 pub mod Says

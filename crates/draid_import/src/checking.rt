@@ -1,9 +1,11 @@
 //! The check record of the group that an import found is read, and the blocks that it names are looked for.
-ghost use Rattle.std.specs.Prelude.{◌≡◌, ◌≤◌, ◌+◌, ◌*◌, ◌^◌, ℕ, IfErr, IsErrOf, OnOk};
+ghost use Rattle.std.specs.Prelude.{◌≡◌, ◌≤◌, ◌+◌, ◌*◌, ◌^◌, ℕ, IfErr, IfOk, IsErrOf};
 ghost use Rattle.draid_names.specs.Faults.{Rose};
+ghost use Rattle.draid_record.specs.Checks.{IsCheck, told_check};
 ghost use Rattle.draid_record.specs.declared.fault.RecordFaultKind.{RecordFaultKind};
 ghost use Rattle.draid_found.specs.Found.{AreReady};
-ghost use Rattle.draid_uber.specs.Uber.{Valid, count_of};
+ghost use Rattle.draid_uber.specs.Slots.{group_of};
+ghost use Rattle.draid_uber.specs.Uber.{Valid, changed_of, count_of, kept_of};
 ghost use Rattle.draid_import.specs.Checking.{IsBadCheck, IsCheckFault, IsChecked, KeepsUber, OwnCheck, check_fault_of};
 
 use crate::fault::ImportFault;
@@ -11,7 +13,7 @@ use draid_area::Area;
 use draid_found::first_lack;
 use draid_names::NoMemory;
 use draid_rack::Rack;
-use draid_record::RecordFaultKind;
+use draid_record::{CheckBody, RecordFaultKind};
 use draid_shard::Shard;
 use draid_uber::{CheckFault, Uber};
 use std::alloc::Global;
@@ -42,11 +44,13 @@ pub(crate) fn check_blocks<R: Rack, A: Area>(
     alloc: Global,
     shards: &[Shard<R, A>],
     uber: &mut Uber<A>,
-) -> Result<(), ImportFault>
+) -> Result<CheckBody, ImportFault>
     requires ready { AreReady R.Rack shards.now }
     requires valid { Valid A.size uber.old }
     ensures same { KeepsUber A.Area uber.old uber.new }
-    ensures checked { OnOk result (IsChecked (OwnCheck A.Area uber.old) shards.now) }
+    ensures changed { changed_of uber.new ≡ changed_of uber.old }
+    ensures checked { IfOk result (λ check. IsChecked (OwnCheck A.Area uber.old) shards.now (told_check check)) }
+    ensures range { IfOk result (λ check. IsCheck (group_of (kept_of uber.old)) (told_check check)) }
     ensures faulty { (place : ℕ) (kind : RecordFaultKind) → IsErrOf result (ImportFault.Check place kind) → IsBadCheck (OwnCheck A.Area uber.old) shards.now place kind }
     ensures cause { IsErrOf result ImportFault.Shelf → Rose (count_of A.faults uber.old) (count_of A.faults uber.new) }
     ensures fault { IfErr result IsCheckFault }
@@ -56,7 +60,7 @@ pub(crate) fn check_blocks<R: Rack, A: Area>(
         Err(why) => return Err(check_fault(why)),
     };
     match first_lack(alloc, shards, check.group, &check.drops) {
-        Ok(None) => Ok(()),
+        Ok(None) => Ok(check),
         Ok(Some(at)) => Err(ImportFault::Check {
             at: place_of(at),
             kind: RecordFaultKind::Range,

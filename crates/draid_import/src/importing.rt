@@ -1,7 +1,7 @@
 //! A pool is imported from what was given back to a shelf: its uberblock is found, each metaslab is opened from the
 //! record of the group that it names, the check record of the group is read, and of each object the block with the greatest
-//! number counts.
-ghost use Rattle.std.specs.Prelude.{◌≡◌, ◌<◌, ◌≤◌, ◌+◌, ◌⊎◌, ◌↔◌, ℕ, None, Some, Err, IfErr, IfOk, IsErrOf, IsSome, IsSomeAnd, IsTrue, OnErr, OnOk, is_some, length, nat_eq, slice_get, Option};
+//! number counts that wasn't dropped to the checkpoint.
+ghost use Rattle.std.specs.Prelude.{◌≡◌, ◌<◌, ◌≤◌, ◌+◌, ◌⊎◌, ◌↔◌, ℕ, None, Some, Err, Ok, IfErr, IfOk, IsErrOf, IsSome, IsSomeAnd, IsTrue, OnErr, OnOk, is_some, length, nat_eq, slice_get, Option};
 ghost use Rattle.std.specs.HashMap.{get};
 ghost use Rattle.draid_record.specs.declared.fault.RecordFaultKind.{RecordFaultKind};
 ghost use Rattle.draid_names.specs.Faults.{Rose};
@@ -16,29 +16,33 @@ ghost use Rattle.draid_shard.specs.Looks.{IsLive};
 ghost use Rattle.draid_shard.specs.Fits.{Valid};
 ghost use Rattle.draid_shard.specs.declared.shard.Shard.{Shard};
 ghost use Rattle.draid_uber.specs.Slots.{group_of};
-ghost use Rattle.draid_uber.specs.Uber.{Valid as IsValidUber, count_of, kept_of, layout_of, next_leaf_of};
+ghost use Rattle.draid_uber.specs.Uber.{Valid as IsValidUber, changed_of, count_of, kept_of, layout_of, next_leaf_of, point_of};
 ghost use Rattle.draid_segments.specs.Segments.{Pieces};
 ghost use Rattle.draid_session.specs.State.{State, limit_of};
-ghost use Rattle.draid_import.specs.Checking.{CheckIsBad, IsBadCheck, IsChecked, KeepsUber, NoCheck, OwnCheck};
+ghost use Rattle.draid_import.specs.Checking.{CheckIsBad, HoldsCheck, IsBadCheck, KeepsUber, NoCheck, OwnCheck};
+ghost use Rattle.draid_record.specs.Checks.{CheckTold};
+ghost use Rattle.draid_pool.specs.Ubers.{check_told};
 ghost use Rattle.draid_import.specs.Faulty.{HoldsNoGroup, IsUnread, OneIsUnread, RecordIsBad, TellsBody, UberIsBad};
 ghost use Rattle.draid_import.specs.Findings.{IsMadeOf, IsReadPool, LeavesAll};
-ghost use Rattle.draid_import.specs.Imported.{AreNewest, IsFoundOf};
+ghost use Rattle.draid_import.specs.Imported.{AreLeft, HasPointers, IsFoundOf, IsLastIn};
+ghost use Rattle.draid_import.specs.Points.{IsFoundBeside};
 ghost use Rattle.draid_import.specs.Importing.{ImportIs, ImportsPool, LeavesMade, RestsThere};
 ghost use Rattle.draid_pool.specs.Shelves.{count_on};
 ghost use Rattle.draid_pool.specs.Taking.{HoldsMade, IsAsBefore, TakesFirst, takes_areas};
 ghost use Rattle.draid_import.specs.Found.{AnyRecordsRose, AreFreed, AreReopened, CountsLater, FreesIfOlder, FreesOlder, HasOnly, HaveLowLeaves, HasRisen, IsFoundUber, IsRecovered, IsReopened, IsShardFault, KeepsFound, KeepsFoundAt, KeepsKnown, LeavesShards, LeavesUber, NoRecord, OpensAllOver, OpensOver, RecordsRose, StaysHeld, shelf_fault_of, uber_fault_of, open_fault_of};
 ghost use Rattle.draid_found.specs.Found.{AllLive, AreFound, AreReady};
 ghost use Rattle.draid_found.specs.Together.{AreApart, AreTogether};
-ghost use Rattle.draid_pool.specs.Whole.{IsWhole};
+ghost use Rattle.draid_pool.specs.Whole.{IsWhole, PointFits};
 ghost use Rattle.draid_found.specs.declared.finding.Found.{Found};
 
 use crate::checking::check_blocks;
 use crate::fault::{ImportFault, OpenFault, OpenRefused};
+use crate::pointing::{count_beside, keep_point};
 use crate::reopening::reopen;
 use draid_area::Area;
 use draid_blocks::free;
 use draid_found::{Found, FoundFault};
-use draid_names::{DeviceFault, Pointer};
+use draid_names::{DeviceFault, NoMemory, Pointer};
 use draid_perm::Perms;
 use draid_pool::{EVENTS, Own, Owned, Pool, give_areas, give_back, take_areas};
 use draid_rack::Rack;
@@ -103,6 +107,7 @@ fn has_length_told<A: Area>(area: &A)
 fn find_uber<H: Shelf>(alloc: Global, shelf: &mut H) -> Result<Uber<H::A>, ImportFault>
     ensures found { IfOk result (IsFoundUber H.A.Area) }
     ensures recovered { IfOk result (IsRecovered H.A.Area (H.told shelf.old) (count_on H.Shelf shelf.old)) }
+    ensures changed { IfOk result (λ uber. changed_of uber ≡ 0) }
     ensures told { OnOk result (H.told shelf.new ≡ takes_areas (H.told shelf.old)) }
     ensures body { IfOk result (TellsBody (H.told shelf.old)) }
     ensures empty { IsErrOf result ImportFault.NoPool → HoldsNoGroup (H.told shelf.old) }
@@ -259,7 +264,8 @@ fn find_blocks<R: Rack, A: Area>(
     }
 }
 
-/// What the records of all metaslabs say of the objects, where the check record goes with them.
+/// What the records of all metaslabs say of the objects beside the check record, where that goes with them. The uberblock keeps
+/// the checkpoint from then on, and the older blocks that it keeps are dropped to it.
 fn find_all<R: Rack, A: Area>(
     alloc: Global,
     shards: &[Shard<R, A>],
@@ -267,26 +273,40 @@ fn find_all<R: Rack, A: Area>(
 ) -> Result<Found, ImportFault>
     requires ready { AreReady R.Rack shards.now }
     requires valid { IsValidUber A.size uber.old }
+    requires low { group_of (kept_of uber.old) < LAST_NUMBER }
     ensures same { KeepsUber A.Area uber.old uber.new }
-    ensures found { IfOk result (λ found. AreFound shards.now (get nat_eq found.newest) found.seq) }
+    ensures found { IfOk result (λ found. IsFoundBeside (OwnCheck A.Area uber.old) shards.now (group_of (kept_of uber.old)) (changed_of uber.old) (get nat_eq found.newest) found.seq uber.new) }
     ensures together { OnOk result (AreTogether shards.now (length shards.now)) }
-    ensures checked { OnOk result (IsChecked (OwnCheck A.Area uber.old) shards.now) }
     ensures faulty { (metaslab : Option ℕ) (place : ℕ) (kind : RecordFaultKind) → IsErrOf result (ImportFault.Record metaslab place kind) → AreApart shards.now metaslab place kind }
     ensures check { (place : ℕ) (kind : RecordFaultKind) → IsErrOf result (ImportFault.Check place kind)
         → AreTogether shards.now (length shards.now) × IsBadCheck (OwnCheck A.Area uber.old) shards.now place kind }
     ensures cause { IsErrOf result ImportFault.Shelf → Rose (count_of A.faults uber.old) (count_of A.faults uber.new) }
-    // No check record of a pool that rests on a shelf has a fault.
-    ensures none { (x : State) (pieces : ℕ → Pieces) (held : Option Held) (leaves : ℕ → Option Shape) (counts : ℕ → KitCounts) (count : ℕ)
-        → RestsThere x pieces held leaves counts count → IsFoundUber A.Area uber.old → IsRecovered A.Area held count uber.old → NoCheck result }
+    // No check record of a pool that rests on a shelf has a fault, where its metaslabs were opened from there.
+    ensures none { (x : State) (pieces : ℕ → Pieces) (held : Option Held) (leaves known : ℕ → Option Shape) (counts now : ℕ → KitCounts) (count : ℕ)
+        → RestsThere x pieces held leaves counts count → IsFoundUber A.Area uber.old → IsRecovered A.Area held count uber.old → ((m : ℕ) → now m ≡ counts m)
+        → AreReopened R.Rack (layout_of uber.old) (group_of (kept_of uber.old)) shards.now
+        → OpensAllOver R.Rack A.Area (limit_of (layout_of uber.old)) (group_of (kept_of uber.old)) (next_leaf_of uber.old) (takes_areas held) known now shards.now → NoCheck result }
+    // What its check record says is what became of its checkpoint.
+    ensures told { (x : State) (pieces : ℕ → Pieces) (held : Option Held) (leaves : ℕ → Option Shape) (counts : ℕ → KitCounts) (count : ℕ)
+        → RestsThere x pieces held leaves counts count → IsFoundUber A.Area uber.old → IsRecovered A.Area held count uber.old
+        → (value : CheckTold) → HoldsCheck (group_of (kept_of uber.old)) held (Ok value) → value ≡ check_told x.store.marks (group_of (kept_of uber.old)) }
     ensures some { IsErrOf result ImportFault.NoPool → ⊥ }
 {
-    let found = match find_blocks(alloc, shards) {
+    let mut found = match find_blocks(alloc, shards) {
         Ok(found) => found,
         Err(fault) => return Err(fault),
     };
-    match check_blocks(alloc, shards, uber) {
+    let check = match check_blocks(alloc, shards, uber) {
+        Ok(check) => check,
+        Err(fault) => return Err(fault),
+    };
+    match count_beside(alloc, shards, &mut found, &check.drops) {
+        Ok(()) => {}
+        Err(NoMemory) => return Err(ImportFault::NoMemory),
+    }
+    match keep_point(alloc, shards, &found.newest, &check, uber) {
         Ok(()) => Ok(found),
-        Err(fault) => Err(fault),
+        Err(NoMemory) => Err(ImportFault::NoMemory),
     }
 }
 
@@ -297,10 +317,11 @@ fn is_newest(newest: &HashMap<u64, Pointer>, pointer: &Pointer) -> bool
     newest.get(&pointer.object) == Some(pointer)
 }
 
-/// Frees a live block that isn't the newest of its object.
+/// Frees a live block that isn't the newest of its object, unless the checkpoint keeps it.
 fn free_if_older<R: Rack, A: Area>(
     shard: &mut Shard<R, A>,
     newest: &HashMap<u64, Pointer>,
+    uber: &Uber<A>,
     pointer: &Pointer,
     floor: u64,
 )
@@ -308,9 +329,12 @@ fn free_if_older<R: Rack, A: Area>(
     requires live { IsLive shard.old pointer.now }
     requires floor { floor ≤ shard.old.open_group + 1 }
     requires last { floor ≤ LAST_NUMBER }
-    ensures frees { FreesIfOlder R.Rack A.Area (get nat_eq newest.now) pointer.now floor shard.old shard.new }
+    ensures frees { FreesIfOlder R.Rack A.Area (get nat_eq newest.now) (point_of uber.now).group pointer.now floor shard.old shard.new }
 {
     if is_newest(newest, pointer) {
+        return;
+    }
+    if uber.holds(pointer.birth) {
         return;
     }
     let Ok(_group) = free(shard, pointer, floor) else {
@@ -318,38 +342,44 @@ fn free_if_older<R: Rack, A: Area>(
     };
 }
 
-/// Frees the blocks of a metaslab that aren't the newest of their objects.
-fn free_older<R: Rack, A: Area>(shard: &mut Shard<R, A>, newest: &HashMap<u64, Pointer>, floor: u64)
+/// Frees the blocks of a metaslab that aren't the newest of their objects, and that the checkpoint doesn't keep.
+fn free_older<R: Rack, A: Area>(
+    shard: &mut Shard<R, A>,
+    newest: &HashMap<u64, Pointer>,
+    uber: &Uber<A>,
+    floor: u64,
+)
     requires valid { Valid R.Rack shard.old }
     requires live { AllLive shard.old }
     requires floor { floor ≤ shard.old.open_group + 1 }
     requires last { floor ≤ LAST_NUMBER }
-    ensures frees { FreesOlder R.Rack (get nat_eq newest.now) shard.old shard.new }
-    ensures only { HasOnly (get nat_eq newest.now) shard.new }
-    ensures keeps { KeepsFoundAt R.Rack A.Area (get nat_eq newest.now) floor shard.old shard.new }
+    ensures frees { FreesOlder R.Rack (get nat_eq newest.now) (point_of uber.now).group shard.old shard.new }
+    ensures only { HasOnly (get nat_eq newest.now) (point_of uber.now).group shard.new }
+    ensures keeps { KeepsFoundAt R.Rack A.Area (get nat_eq newest.now) (point_of uber.now).group floor shard.old shard.new }
 {
     let mut from = 0;
     while let Some(pointer) = shard.next_held(from) {
-        free_if_older(shard, newest, &pointer, floor);
+        free_if_older(shard, newest, uber, &pointer, floor);
         from = pointer.first + 1;
     }
 }
 
-/// Frees the blocks of all metaslabs that aren't the newest of their objects.
+/// Frees the blocks of all metaslabs that aren't the newest of their objects, and that the checkpoint doesn't keep.
 fn free_all<R: Rack, A: Area>(
     shards: &mut Vec<Shard<R, A>>,
     newest: &HashMap<u64, Pointer>,
+    uber: &Uber<A>,
     floor: u64,
 )
     requires ready { AreReady R.Rack shards.old.items }
     requires floor { (m : ℕ) (shard : Shard R A) → slice_get shards.old.items m ≡ Some shard → floor ≤ shard.open_group + 1 }
     requires last { floor ≤ LAST_NUMBER }
-    ensures freed { AreFreed R.Rack (get nat_eq newest.now) shards.old.items shards.new.items }
-    ensures only { AreNewest shards.new.items (get nat_eq newest.now) }
-    ensures keeps { KeepsFound R.Rack A.Area (get nat_eq newest.now) floor shards.old.items shards.new.items }
+    ensures freed { AreFreed R.Rack (get nat_eq newest.now) (point_of uber.now).group shards.old.items shards.new.items }
+    ensures only { AreLeft shards.new.items (get nat_eq newest.now) (point_of uber.now).group }
+    ensures keeps { KeepsFound R.Rack A.Area (get nat_eq newest.now) (point_of uber.now).group floor shards.old.items shards.new.items }
 {
     for number in 0..shards.len() {
-        free_older(&mut shards[number], newest, floor);
+        free_older(&mut shards[number], newest, uber, floor);
     }
 }
 
@@ -362,7 +392,10 @@ fn pool_of<R: Rack, A: Area>(
 ) -> Pool<R, A>
     requires uber { IsFoundUber A.Area uber }
     requires shards { AreReopened R.Rack (layout_of uber) (group_of (kept_of uber)) shards.items }
-    requires found { AreFound shards.items (get nat_eq found.newest) found.seq }
+    requires pointers { HasPointers shards.items (get nat_eq found.newest) }
+    requires last { IsLastIn shards.items found.seq }
+    requires fits { PointFits 0 (point_of uber) (get nat_eq found.newest) found.seq }
+    requires early { (own : ℕ) → (point_of uber).group ≡ Some own → own ≤ group_of (kept_of uber) }
     requires together { AreTogether shards.items (length shards.items) }
     requires low { HaveLowLeaves (next_leaf_of uber) shards.items }
     ensures whole { IsWhole R.Rack A.Area result }
@@ -371,7 +404,7 @@ fn pool_of<R: Rack, A: Area>(
 {
     let floor = uber.committed() + 1;
     let mut shards = shards;
-    free_all(&mut shards, &found.newest, floor);
+    free_all(&mut shards, &found.newest, &uber, floor);
     Pool {
         geometry: *uber.geometry(),
         metaslabs: Owned { shards },

@@ -7,6 +7,7 @@ mod checking;
 mod fault;
 mod importing;
 mod laws;
+mod pointing;
 mod reopening;
 mod replies;
 mod standing;

@@ -20,7 +20,8 @@ returns-in-Ok-recover g c =
     let t = c.in-Ok.ensures in
     let e = c.in-Ok-recover.ensures in
     record {
-      found = found_uber g.H.A.Area c.in-Ok-recover.uber c.in-Ok-recover.ensures.valid c.in-Ok-recover.ensures.some c.in-Ok-recover.ensures.ranges c.in-Ok-recover.ensures.point;
+      found = found_uber g.H.A.Area c.in-Ok-recover.uber c.in-Ok-recover.ensures.valid c.in-Ok-recover.ensures.some c.in-Ok-recover.ensures.ranges;
+      changed = e.changed;
       recovered = (let area = g.H.A.Area in
           record {
             content = area.told c.in-Ok.areas.uber;
@@ -57,6 +58,7 @@ returns-then-not-has_pool g c =
     record {
       found = tt;
       recovered = tt;
+      changed = tt;
       told = tt;
       body = tt;
       empty = λ err. no_uber (shelf.told c.args.shelf.now) c.has_pool.result c.has_pool.ensures c.if-not-has_pool.true;
@@ -80,6 +82,7 @@ returns-in-Err g c =
     record {
       found = tt;
       recovered = tt;
+      changed = tt;
       told = tt;
       body = tt;
       empty = λ err. absurd (shelf_not_empty c.in-Err.why (sym c.shelf_fault.ensures.is ∙ err_is c.shelf_fault.result _ err));
@@ -115,6 +118,7 @@ returns-in-Err-recover g c =
     record {
       found = tt;
       recovered = tt;
+      changed = tt;
       told = tt;
       body = tt;
       empty = λ err. uber_empty (shelf.told c.args.shelf.now) was.uber r.field-0.why own r.ensures.finds (sym c.uber_fault.ensures.is ∙ err_is c.uber_fault.result _ err);

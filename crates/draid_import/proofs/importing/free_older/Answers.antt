@@ -3,6 +3,7 @@ use Rattle.std.specs.Prelude.{nat_eq}
 use Rattle.std.specs.HashMap.{get}
 use Rattle.draid_spec.specs.Geometry.{metaslab_stripes}
 use Rattle.draid_shard.specs.Part.{Part}
+use Rattle.draid_uber.specs.Uber.{point_of}
 use Rattle.draid_import.proofs.ImportFreed.{keeps_none, keeps_step, only_all, only_step}
 use Rattle.draid_found.proofs.Noted.{next_inside, next_live, next_low}
 use Rattle.draid_import.proofs.Found.{frees_none, frees_step, left_behind}
@@ -12,11 +13,11 @@ pub loop-pointer-init : goal.loop-pointer-init
 loop-pointer-init g c =
     let newest = get nat_eq c.args.newest.now in
     record {
-      frees = frees_none g.R.Rack newest c.args.shard.now c.requires.valid c.requires.live;
+      frees = frees_none g.R.Rack newest (point_of c.args.uber.now).group c.args.shard.now c.requires.valid c.requires.live;
       open_group = refl;
       left = λ first e past there. c.requires.live first e there;
       bound = omega arith;
-      keeps = keeps_none g.R.Rack g.A.Area newest c.args.floor c.args.shard.now;
+      keeps = keeps_none g.R.Rack g.A.Area newest (point_of c.args.uber.now).group c.args.floor c.args.shard.now;
       only = λ first e below there is. absurd (omega (arith, below));
     }
 
@@ -41,12 +42,12 @@ loop-pointer-preserved g c =
     let same = ap (λ (p : Part). metaslab_stripes p.geometry) i.frees.part in
     let live = next_live g.R.Rack c.loop-pointer.shard c.loop-pointer.from c.in-Some.pointer i.left next in
     record {
-      frees = frees_step g.R.Rack newest g.A.Area c.args.shard.now c.loop-pointer.shard c.free_if_older.new.shard c.in-Some.pointer c.args.floor i.frees live c.free_if_older.ensures.frees;
+      frees = frees_step g.R.Rack newest (point_of c.args.uber.now).group g.A.Area c.args.shard.now c.loop-pointer.shard c.free_if_older.new.shard c.in-Some.pointer c.args.floor i.frees live c.free_if_older.ensures.frees;
       open_group = c.free_if_older.ensures.frees.open_group_is ∙ i.open_group;
-      left = left_behind g.R.Rack newest g.A.Area c.loop-pointer.shard c.free_if_older.new.shard c.in-Some.pointer c.args.floor c.loop-pointer.from next.behind c.free_if_older.ensures.frees i.left;
+      left = left_behind g.R.Rack newest (point_of c.args.uber.now).group g.A.Area c.loop-pointer.shard c.free_if_older.new.shard c.in-Some.pointer c.args.floor c.loop-pointer.from next.behind c.free_if_older.ensures.frees i.left;
       bound = omega (arith, inside, same);
-      keeps = keeps_step g.R.Rack g.A.Area newest c.args.floor c.args.shard.now c.loop-pointer.shard c.free_if_older.new.shard c.in-Some.pointer i.keeps live c.free_if_older.ensures.frees;
-      only = only_step g.R.Rack g.A.Area newest c.args.floor c.loop-pointer.from c.loop-pointer.shard c.free_if_older.new.shard c.in-Some.pointer next c.free_if_older.ensures.frees i.only;
+      keeps = keeps_step g.R.Rack g.A.Area newest (point_of c.args.uber.now).group c.args.floor c.args.shard.now c.loop-pointer.shard c.free_if_older.new.shard c.in-Some.pointer i.keeps live c.free_if_older.ensures.frees;
+      only = only_step g.R.Rack g.A.Area newest (point_of c.args.uber.now).group c.args.floor c.loop-pointer.from c.loop-pointer.shard c.free_if_older.new.shard c.in-Some.pointer next c.free_if_older.ensures.frees i.only;
     }
 
 pub free_if_older-requires : goal.free_if_older-requires
@@ -62,6 +63,6 @@ pub returns : goal.returns
 returns g c =
     record {
       frees = c.loop-pointer.invariant.frees;
-      only = only_all g.R.Rack g.A.Area (get nat_eq c.args.newest.now) c.args.floor c.loop-pointer.from c.loop-pointer.shard c.in_default.ensures.none c.loop-pointer.invariant.only;
+      only = only_all g.R.Rack g.A.Area (get nat_eq c.args.newest.now) (point_of c.args.uber.now).group c.args.floor c.loop-pointer.from c.loop-pointer.shard c.in_default.ensures.none c.loop-pointer.invariant.only;
       keeps = c.loop-pointer.invariant.keeps;
     }

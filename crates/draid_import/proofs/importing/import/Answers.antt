@@ -1,4 +1,4 @@
-use Rattle.std.proofs.Common.{◌≡◌, ◌∙◌, inl, inr, length, List, Result, Err, ap, subst, sym, arith}
+use Rattle.std.proofs.Common.{◌≡◌, ◌≤◌, ◌∙◌, inl, inr, length, List, Option, Result, Err, ap, subst, sym, arith}
 use Rattle.std.specs.Prelude.{nat_eq}
 use Rattle.std.proofs.lemmas.Result.{err_from_is_err_and}
 use Rattle.std.specs.HashMap.{get}
@@ -6,17 +6,22 @@ use Rattle.draid_shard.specs.declared.shard.Shard.{Shard}
 use Rattle.draid_uber.specs.Slots.{group_of}
 use Rattle.draid_uber.specs.Checks.{told_by}
 use Rattle.draid_uber.specs.declared.uber.Uber.{Uber}
-use Rattle.draid_uber.specs.Uber.{areas_of, kept_of, layout_of, next_leaf_of}
+use Rattle.draid_uber.specs.Uber.{areas_of, changed_of, kept_of, layout_of, next_leaf_of}
 use Rattle.draid_found.specs.Together.{AreApart, AreTogether}
 use Rattle.draid_session.specs.State.{limit_of}
-use Rattle.draid_import.specs.Checking.{IsBadCheck, IsChecked, OwnCheck}
+use Rattle.draid_import.specs.Checking.{HoldsCheck, IsBadCheck, OwnCheck}
+use Rattle.draid_import.specs.Found.{AreReopened, OpensAllOver}
+use Rattle.draid_import.specs.Points.{IsFoundBeside}
+use Rattle.draid_record.specs.declared.uber.UberBody.{UberBody}
+use Rattle.draid_shelf.specs.Kits.{Held}
 use Rattle.draid_import.specs.Findings.{LeavesAll}
-use Rattle.draid_found.specs.Found.{AreFound, AreReady}
+use Rattle.draid_found.specs.Found.{AreReady}
 use Rattle.draid_import.specs.Importing.{ImportIs}
 use Rattle.draid_import.specs.declared.fault.ImportFault.{ImportFault}
 use Rattle.draid_pool.specs.declared.pool.Pool.{Pool}
 use Rattle.draid_import.proofs.Findings.{left_found, left_unfound, over_entry, unread_entry}
-use Rattle.draid_import.proofs.ImportCheck.{bad_entry, checked_entry, risen_own, still_behind, still_body, still_found, still_low, still_over, still_recovered, still_reopened, still_taken}
+use Rattle.draid_import.proofs.ImportCheck.{bad_entry, beside_entry, risen_own, still_behind, still_body, still_found, still_low, still_over, still_recovered, still_reopened, still_taken}
+use Rattle.draid_import.proofs.ImportFits.{early_by, new_value}
 use Rattle.draid_import.proofs.ImportFaulty.{err_is, passed_on, passed_over, shard_no_check, shard_not_empty}
 use Rattle.draid_import.proofs.ImportMade.{made_passed, none_passed}
 use Rattle.draid_import.proofs.ImportLeft.{leaves_all, refusal_is, refused_pool, rests_known, risen_behind}
@@ -34,6 +39,7 @@ find_all-requires g c = record {
   ready = subst (λ (xs : List (Shard g.row.H-R.Denot g.row.H-A.Denot)). AreReady g.H.R.Rack xs) (sym c.deref.ensures.value)
       (all_ready g.H.R.Rack (layout_of c.in_ok-uber.uber) (group_of (kept_of c.in_ok-uber.uber)) c.in-Ok.shards.items c.in-Ok.ensures.reopened);
   valid = c.in_ok-uber.ensures.found.valid;
+  low = c.in_ok-uber.ensures.found.low;
 }
 
 pub reopen_shards-requires-clause-uber : goal.reopen_shards-requires-clause-uber
@@ -45,11 +51,16 @@ pool_of-requires g c =
     let old = c.in_ok-uber.uber in
     let new = c.find_all.new.uber in
     let k = c.find_all.ensures.same in
+    let newest = get nat_eq c.in-Ok-find_all.found.newest in
+    let group = group_of (kept_of old) in
+    let f = subst (λ (xs : List (Shard g.row.H-R.Denot g.row.H-A.Denot)). IsFoundBeside (OwnCheck area old) xs group (changed_of old) newest c.in-Ok-find_all.found.seq new) c.deref.ensures.value c.in-Ok-find_all.ensures.found in
     record {
       uber = still_found area old new k c.in_ok-uber.ensures.found;
       shards = still_reopened area old new k g.H.R.Rack c.in-Ok.shards.items c.in-Ok.ensures.reopened;
-      found = (let found = c.in-Ok-find_all.found in
-          subst (λ (xs : List (Shard g.row.H-R.Denot g.row.H-A.Denot)). AreFound xs (get nat_eq found.newest) found.seq) c.deref.ensures.value c.in-Ok-find_all.ensures.found);
+      pointers = λ object p at. (f.newest_is.pointers object p at).0;
+      last = f.last;
+      fits = f.fits;
+      early = λ own is. subst (λ (o : Option UberBody). own ≤ group_of o) (sym k.kept) (early_by group f.value c.in-Ok.shards.items newest (changed_of old) new f.point f.range own is);
       together = subst (λ (xs : List (Shard g.row.H-R.Denot g.row.H-A.Denot)). AreTogether xs (length xs)) c.deref.ensures.value c.in-Ok-find_all.ensures.together;
       low = still_low area old new k g.H.R.Rack c.in-Ok.shards.items (λ m shard there. (c.in-Ok.ensures.over m shard there).opens.low);
     }
@@ -76,14 +87,18 @@ returns-in-Ok-find_all g c =
     let recovered = still_recovered area old new k (shelf.told c.args.shelf.now) (count_on shelf c.args.shelf.now) u.recovered in
     let reopened = still_reopened area old new k rack shards e.reopened in
     let over = still_over area old new k rack shards (shelf.told c.find_uber.new.shelf) (shelf.leaves c.find_uber.new.shelf) (shelf.counts c.find_uber.new.shelf) e.over in
-    let blocks = subst (λ (xs : List (Shard g.row.H-R.Denot g.row.H-A.Denot)). AreFound xs newest c.in-Ok-find_all.found.seq) c.deref.ensures.value c.in-Ok-find_all.ensures.found in
+    let own = subst (λ (xs : List (Shard g.row.H-R.Denot g.row.H-A.Denot)). IsFoundBeside (OwnCheck area old) xs (group_of (kept_of old)) (changed_of old) newest c.in-Ok-find_all.found.seq new) c.deref.ensures.value c.in-Ok-find_all.ensures.found in
+    let blocks = beside_entry area (shelf.told c.args.shelf.now) (count_on shelf c.args.shelf.now) old new shards (changed_of old) newest c.in-Ok-find_all.found.seq k u.recovered u.changed own in
     record {
       whole = c.pool_of.ensures.whole;
       none = absent_not old (shelf.told c.args.shelf.now) _ _ u.none;
       made = λ geometry made. absurd (u.made geometry made).none;
       import = λ x pieces there. c.pool_of.ensures.imports x pieces
           (pool_found c.args.alloc rack area x pieces (shelf.told c.args.shelf.now) (shelf.told c.find_uber.new.shelf) (shelf.leaves c.args.shelf.now) (shelf.leaves c.find_uber.new.shelf) (shelf.counts c.args.shelf.now) (shelf.counts c.find_uber.new.shelf)
-          (count_on shelf c.args.shelf.now) new shards newest c.in-Ok-find_all.found.seq there found recovered c.find_uber.ensures.counts u.told reopened over blocks);
+          (count_on shelf c.args.shelf.now) new shards newest c.in-Ok-find_all.found.seq there found recovered c.find_uber.ensures.counts u.told reopened over
+          (HoldsCheck (group_of (kept_of new)) (shelf.told c.args.shelf.now)) blocks
+          (new_value area old new k (shelf.told c.args.shelf.now) blocks.value x.store.marks
+          (c.find_all.ensures.told x pieces (shelf.told c.args.shelf.now) (shelf.leaves c.args.shelf.now) (shelf.counts c.args.shelf.now) (count_on shelf c.args.shelf.now) there u.found u.recovered blocks.value) blocks.checked.read));
       read = record {
         uber = new;
         shards = shards;
@@ -98,8 +113,6 @@ returns-in-Ok-find_all g c =
               (shelf.leaves c.args.shelf.now) (shelf.leaves c.find_uber.new.shelf) (shelf.counts c.args.shelf.now) (shelf.counts c.find_uber.new.shelf) shards u.told c.find_uber.ensures.leaves c.find_uber.ensures.counts over;
           together = subst (λ (xs : List (Shard g.row.H-R.Denot g.row.H-A.Denot)). AreTogether xs (length xs)) c.deref.ensures.value c.in-Ok-find_all.ensures.together;
           blocks = blocks;
-          checked = checked_entry area (shelf.told c.args.shelf.now) (count_on shelf c.args.shelf.now) old new shards k u.recovered
-              (subst (λ (xs : List (Shard g.row.H-R.Denot g.row.H-A.Denot)). IsChecked (OwnCheck area old) xs) c.deref.ensures.value c.in-Ok-find_all.ensures.checked);
         };
         made = c.pool_of.ensures.made;
       };
@@ -192,7 +205,10 @@ returns-in-Err-find_all g c =
           (no_fault_apart c.args.alloc rack area x pieces held (shelf.told c.find_uber.new.shelf) (shelf.leaves c.args.shelf.now) (shelf.leaves c.find_uber.new.shelf) (shelf.counts c.args.shelf.now) (shelf.counts c.find_uber.new.shelf)
           count old shards fault there u.found u.recovered c.find_uber.ensures.counts u.told e.reopened e.over
           (λ metaslab place kind err. subst (λ (xs : List (Shard g.row.H-R.Denot g.row.H-A.Denot)). AreApart xs metaslab place kind) c.deref.ensures.value (f.faulty metaslab place kind err)))
-          (f.none x pieces held (shelf.leaves c.args.shelf.now) (shelf.counts c.args.shelf.now) count there u.found u.recovered)
+          (f.none x pieces held (shelf.leaves c.args.shelf.now) (shelf.leaves c.find_uber.new.shelf) (shelf.counts c.args.shelf.now) (shelf.counts c.find_uber.new.shelf) count there u.found u.recovered c.find_uber.ensures.counts
+          (subst (λ (xs : List (Shard g.row.H-R.Denot g.row.H-A.Denot)). AreReopened rack (layout_of old) (group_of (kept_of old)) xs) (sym c.deref.ensures.value) e.reopened)
+          (subst (λ (o : Option Held). OpensAllOver rack area (limit_of (layout_of old)) (group_of (kept_of old)) (next_leaf_of old) o (shelf.leaves c.find_uber.new.shelf) (shelf.counts c.find_uber.new.shelf) c.deref.result.now) u.told
+          (subst (λ (xs : List (Shard g.row.H-R.Denot g.row.H-A.Denot)). OpensAllOver rack area (limit_of (layout_of old)) (group_of (kept_of old)) (next_leaf_of old) (shelf.told c.find_uber.new.shelf) (shelf.leaves c.find_uber.new.shelf) (shelf.counts c.find_uber.new.shelf) xs) (sym c.deref.ensures.value) e.over)))
           (refused_pool c.args.alloc rack area x pieces held (shelf.told c.find_uber.new.shelf) (shelf.told c.give_back.new.shelf) (shelf.told last)
           (shelf.leaves c.args.shelf.now) (shelf.leaves c.find_uber.new.shelf) (shelf.leaves c.give_back.new.shelf) (shelf.leaves last)
           (shelf.counts c.args.shelf.now) (shelf.counts c.find_uber.new.shelf) (shelf.counts c.give_back.new.shelf) (shelf.counts last) count (count_on shelf last)

@@ -23,7 +23,7 @@ free_all-requires g c =
 
 pub returns : goal.returns
 returns g c = record {
-  whole = imported_whole g.R.Rack g.A.Area _ (layout_of c.args.uber) c.args.shards.items (get nat_eq c.args.found.newest) c.requires.uber refl c.geometry.ensures c.requires.shards c.requires.found c.requires.together c.requires.low c.free_all.ensures.freed
+  whole = imported_whole g.R.Rack g.A.Area _ (layout_of c.args.uber) c.args.shards.items (get nat_eq c.args.found.newest) c.requires.uber refl c.geometry.ensures c.requires.shards c.requires.pointers c.requires.last c.requires.fits c.requires.early c.requires.together c.requires.low c.free_all.ensures.freed
       (λ object. refl) (ap (λ n. n + 1) c.committed-floor.ensures);
   made = record {
     uber_is = refl;
@@ -37,7 +37,7 @@ returns g c = record {
   imports = λ x pieces f.
       (let newest = get nat_eq c.args.found.newest in
       let floor = ap (λ n. n + 1) c.committed-floor.ensures in
-      let freed = c.free_all.ensures.keeps x c.args.uber pieces c.args.found.seq floor f in
+      let freed = c.free_all.ensures.keeps x c.args.uber pieces c.args.found.seq refl floor f in
       found_imports g.R.Rack g.A.Area x pieces c.args.uber newest c.args.found.seq _ freed _ c.free_all.ensures.only refl refl c.geometry.ensures refl
       (floor ∙ ap (λ n. n + 1) (found_group g.R.Rack g.A.Area x c.args.uber pieces newest c.args.found.seq _ freed)) (λ object. refl));
 }
