@@ -2,7 +2,6 @@
 use Rattle.std.proofs.Common.{◌≡◌, ◌+◌, ◌<◌, ◌∙◌, ℕ, zero, suc, Bool, true, false, List, [], ◌∷◌, Option, Some, None, Contains, arith, refl, sym, ap, ap₂, subst, length, option_map}
 use Rattle.std.specs.Prelude.{All, nat_eq, slice_get, slice_index_or, string_bytes}
 use Rattle.std.specs.List.{AllZip}
-use Rattle.std.specs.HashMap.{get}
 use Rattle.std.proofs.lemmas.Option.{slice_get-get_or}
 use Rattle.draid_names.specs.declared.pointer.Pointer.{Pointer}
 use Rattle.draid_spec.specs.declared.layout.Geometry.{Geometry}
@@ -10,18 +9,16 @@ use Rattle.draid_rack.specs.declared.Rack as racks
 use Rattle.draid_area.specs.declared.Area as areas
 use Rattle.draid_machine.specs.declared.names.ArmName.{ArmName}
 use Rattle.draid_machine.specs.declared.names.Held.{Held}
-use Rattle.draid_machine.specs.declared.names.Key.{Key}
+use Rattle.draid_machine.specs.declared.names.Stage.{Stage}
 use Rattle.draid_machine.specs.declared.names.Stage.TheVariants.{Live}
 use Rattle.draid_machine.specs.After.{keep_if, seal_arm}
 use Rattle.draid_machine.specs.State as machine
 use Rattle.draid_machine.proofs.Small.{none_some, some_injective}
-use Rattle.draid_objects.specs.Changes.{Write, write_of}
-use Rattle.draid_entries.specs.declared.entry.Entry.{Entry}
 use Rattle.draid_entries.specs.Entries.{entry_at}
 use Rattle.draid_entries.specs.Maps.{held_at, key_of, staged}
 use Rattle.draid_shard.specs.Part.{Part}
 use Rattle.draid_shard.specs.declared.shard.Shard.{Shard}
-use Rattle.draid_shard.proofs.Held.{key_leads}
+use Rattle.draid_shard.proofs.Held.{held_entry, key_leads}
 use Rattle.draid_shard.proofs.Tables.{first_is}
 use Rattle.draid_report.specs.declared.view.MetaslabView.{MetaslabView}
 use Rattle.draid_report.specs.declared.view.View.{View as PoolView}
@@ -30,26 +27,21 @@ use Rattle.draid_session.specs.Making.{vdev_name_of}
 use Rattle.draid_session.specs.Opening.{HasObjects}
 use Rattle.draid_session.specs.State.{Metaslab, State}
 use Rattle.draid_session.specs.Status.{BeginsBlock, HasCount, IsFreeStripe, IsGreatestOpen, IsMetaslabView, IsPoolView, IsSlotView}
-use Rattle.draid_views.specs.Views.{AreShown, AreSlotViews, IsPointedAt, IsShown, IsToldOf, ShowSameArms}
+use Rattle.draid_views.specs.Views.{AreShown, AreSlotViews, IsLiveAt, IsShown, IsToldOf, ShowSameArms}
 use Rattle.draid_views.proofs.Zips.{found_at, zip_long, zip_right}
 use Rattle.draid_pool.specs.Importable.{HasArms, bare}
 use Rattle.draid_pool.specs.Metaslabs.{IsMetaslab}
-use Rattle.draid_pool.specs.Objects.{IsLastAt, IsPointerOf, PointsTo}
 use Rattle.draid_pool.specs.Pools.{Represents, part_in}
 use Rattle.draid_pool.specs.Views.{seen_at}
 use Rattle.draid_status.specs.Views.{uber_view, views_of}
 use Rattle.draid_pool.specs.Whole.{IsWhole}
 use Rattle.draid_pool.specs.declared.pool.Pool.{Pool}
-use Rattle.draid_pool.proofs.Moved.{blocks_at}
 
 -- ---- counts
 
 -- what is so just where another fact holds is counted as that is
 count_as : (P Q : ℕ → Type 0) (n : ℕ) → ((k : ℕ) → P k → Q k) → ((k : ℕ) → Q k → P k) → HasCount P n → HasCount Q n
 count_as P Q n to back c = record { test = c.test; is = λ k. (λ same. to k ((c.is k).0 same), λ q. (c.is k).1 (back k q)); count = c.count }
-
-abbrev key_by : ℕ → ℕ → Key
-key_by object seq = record { object = object; seq = seq }
 
 -- ---- looks
 
@@ -113,86 +105,49 @@ module _ {R A : Type 0} (rack : racks.Ghosts R) (area : areas.Ghosts A) (pool : 
     its : IsMetaslab rack area (part_in x m) (is.stands.pieces m) shard y
     its = is.stands.each m shard y here there
 
-    -- a block to which the table points is live
-    live_of : (entry : Entry) (at : ℕ) → entry_at shard.entries at ≡ Some entry → get nat_eq pool.own.objects entry.pointer.object ≡ Some entry.pointer → BeginsBlock (view_of m y) at
-    live_of entry at found pointed = by (write_of x.store.changes entry.pointer.object) (subst (λ (o : Option Pointer). PointsTo pool.metaslabs.shards.items o (write_of x.store.changes entry.pointer.object)) pointed (is.stands.objects entry.pointer.object))
-      where
-        first : entry.pointer.first ≡ at
-        first = first_is shard.entries at entry found
+    -- a live block is one of the metaslab
+    live_of : (pointer : Pointer) (at : ℕ) → entry_at shard.entries at ≡ Some (staged Live pointer) → BeginsBlock (view_of m y) at
+    live_of pointer at entered = record {
+      key = key_of pointer;
+      held = held_at (staged Live pointer);
+      there = its.stands.is_in.held (key_of pointer) ∙ key_leads shard.entries at (staged Live pointer) entered;
+      live = refl;
+      first = first_is shard.entries at (staged Live pointer) entered;
+    }
 
-        named : entry.pointer.metaslab ≡ m
-        named = its.valid.here.each at entry found ∙ ap (λ (p : Part). p.number) its.part_is
+    live_at : (at : ℕ) → BeginsBlock (view_of m y) at → IsLiveAt shard at
+    live_at at b =
+        let z = held_entry shard.entries b.key b.held (sym (its.stands.is_in.held b.key) ∙ b.there) in
+        let live : z.e.stage ≡ Live = ap (λ (h : Held). h.stage) z.held_is ∙ b.live in
+        record {
+          pointer = z.e.pointer;
+          there = ap (entry_at shard.entries) (sym b.first) ∙ subst (λ (s : Stage). entry_at shard.entries b.held.first ≡ Some (staged s z.e.pointer)) live z.there;
+        }
 
-        begun : (s : Shard R A) → slice_get pool.metaslabs.shards.items entry.pointer.metaslab ≡ Some s → entry_at s.entries entry.pointer.first ≡ Some (staged Live entry.pointer) → BeginsBlock (view_of m y) at
-        begun s s_there live =
-            let same : s ≡ shard = some_injective s shard (sym s_there ∙ ap (slice_get pool.metaslabs.shards.items) named ∙ here) in
-            let entered = subst (λ (t : Shard R A). entry_at t.entries entry.pointer.first ≡ Some (staged Live entry.pointer)) same live in
-            record {
-              key = key_of entry.pointer;
-              held = held_at (staged Live entry.pointer);
-              there = its.stands.is_in.held (key_of entry.pointer) ∙ key_leads shard.entries entry.pointer.first (staged Live entry.pointer) entered;
-              live = refl;
-              first = first;
-            }
-
-        by : (o : Option Write) → PointsTo pool.metaslabs.shards.items (Some entry.pointer) o → BeginsBlock (view_of m y) at
-        by None points = absurd points
-        by (Some write) points = begun points.shard points.there points.live
-
-    -- and the table points to each that is live
-    pointed_of : (at : ℕ) → BeginsBlock (view_of m y) at → IsPointedAt pool.own.objects shard at
-    pointed_of at b = by (write_of x.store.changes b.key.object) last (is.stands.objects b.key.object)
-      where
-        last : IsLastAt m b.key (write_of x.store.changes b.key.object)
-        last = is.only m b.key b.held (blocks_at x.metaslabs m y b.key there ∙ b.there) b.live
-
-        pointed : (write : Write) (pointer : Pointer) → IsLastAt m b.key (Some write) → get nat_eq pool.own.objects b.key.object ≡ Some pointer → IsPointerOf pool.metaslabs.shards.items pointer write → IsPointedAt pool.own.objects shard at
-        pointed write pointer of got points =
-            let named : pointer.metaslab ≡ m = points.metaslab_is ∙ of.0 in
-            let key : key_of pointer ≡ b.key = ap₂ (λ (o s : ℕ). key_by o s) points.object_is points.seq_is ∙ of.1 in
-            let same : points.shard ≡ shard = some_injective points.shard shard (sym points.there ∙ ap (slice_get pool.metaslabs.shards.items) named ∙ here) in
-            let entered = subst (λ (t : Shard R A). entry_at t.entries pointer.first ≡ Some (staged Live pointer)) same points.live in
-            let held = its.stands.is_in.held (key_of pointer) ∙ key_leads shard.entries pointer.first (staged Live pointer) entered in
-            let equal : held_at (staged Live pointer) ≡ b.held = some_injective (held_at (staged Live pointer)) b.held (sym held ∙ ap y.world.core.held key ∙ b.there) in
-            let place : pointer.first ≡ at = ap (λ (h : Held). h.first) equal ∙ b.first in
-            record {
-              entry = staged Live pointer;
-              there = ap (entry_at shard.entries) (sym place) ∙ entered;
-              pointed = ap (get nat_eq pool.own.objects) (ap (λ (k : Key). k.object) key) ∙ got;
-            }
-
-        by : (o : Option Write) → IsLastAt m b.key o → PointsTo pool.metaslabs.shards.items (get nat_eq pool.own.objects b.key.object) o → IsPointedAt pool.own.objects shard at
-        by None none points = absurd none
-        by (Some write) of points = found (get nat_eq pool.own.objects b.key.object) refl points
-          where
-            found : (o : Option Pointer) → get nat_eq pool.own.objects b.key.object ≡ o → PointsTo pool.metaslabs.shards.items o (Some write) → IsPointedAt pool.own.objects shard at
-            found None got points = absurd points
-            found (Some pointer) got points = pointed write pointer of got points
-
-    pub metaslab_told : (it : MetaslabView) → IsToldOf pool.own.objects shard it → IsMetaslabView x.geometry x.perms (view_of m y) it
+    pub metaslab_told : (it : MetaslabView) → IsToldOf shard it → IsMetaslabView x.geometry x.perms (view_of m y) it
     metaslab_told it told = record {
       free = subst (λ (p : Part). HasCount (IsFreeStripe p.geometry p.perms (view_of m y)) it.free) its.part_is (told.free (view_of m y) its.stands.is_in);
-      blocks = count_as (IsPointedAt pool.own.objects shard) (BeginsBlock (view_of m y)) it.blocks (λ at p. live_of p.entry at p.there p.pointed) pointed_of told.blocks;
+      blocks = count_as (IsLiveAt shard) (BeginsBlock (view_of m y)) it.blocks (λ at p. live_of p.pointer at p.there) live_at told.blocks;
       pass = told.pass (view_of m y) its.stands.is_in;
     }
 
   -- ---- the pool
 
-  pub metaslabs_told : (views : List MetaslabView) → AllZip (IsToldOf pool.own.objects) pool.metaslabs.shards.items views → (m : ℕ) (v : View) (it : MetaslabView) → slice_get (views_of x) m ≡ Some v → slice_get views m ≡ Some it
+  pub metaslabs_told : (views : List MetaslabView) → AllZip IsToldOf pool.metaslabs.shards.items views → (m : ℕ) (v : View) (it : MetaslabView) → slice_get (views_of x) m ≡ Some v → slice_get views m ≡ Some it
       → IsMetaslabView x.geometry x.perms v it
   metaslabs_told views told m v it at there =
       let y = seen_of 0 m x.metaslabs v at in
-      let s = zip_right (IsToldOf pool.own.objects) pool.metaslabs.shards.items views told m it there in
+      let s = zip_right IsToldOf pool.metaslabs.shards.items views told m it there in
       let plain : 0 + m ≡ m = omega arith in
       subst (λ (u : View). IsMetaslabView x.geometry x.perms u it) (sym (y.2 ∙ ap (λ (j : ℕ). view_of j y.0) plain)) (metaslab_told m s.0 y.0 s.1 y.1 it s.2)
 
-  pub many_told : (views : List MetaslabView) → AllZip (IsToldOf pool.own.objects) pool.metaslabs.shards.items views → length views ≡ length (views_of x)
-  many_told views told = zip_long (IsToldOf pool.own.objects) pool.metaslabs.shards.items views told ∙ sym (zip_long IsShown pool.metaslabs.shards.items (views_of x) pool_shown)
+  pub many_told : (views : List MetaslabView) → AllZip IsToldOf pool.metaslabs.shards.items views → length views ≡ length (views_of x)
+  many_told views told = zip_long IsToldOf pool.metaslabs.shards.items views told ∙ sym (zip_long IsShown pool.metaslabs.shards.items (views_of x) pool_shown)
 
   -- what is told of a pool, by what is told of its shards
   pub pool_told : (shards : List (Shard R A)) → shards ≡ pool.metaslabs.shards.items → (view : PoolView) → string_bytes view.name ≡ vdev_name_of pool.geometry.spec → view.group ≡ x.committed
       → ((views : List View) → AreShown shards views → IsGreatestOpen views view.open_group) → HasObjects x.store.changes view.objects → length view.slots.items ≡ pool.geometry.spec.children
-      → AreSlotViews pool.geometry shards view.slots.items → AllZip (IsToldOf pool.own.objects) shards view.metaslabs.items → IsPoolView x.geometry x.perms x.store (uber_view x) (views_of x) view
+      → AreSlotViews pool.geometry shards view.slots.items → AllZip IsToldOf shards view.metaslabs.items → IsPoolView x.geometry x.perms x.store (uber_view x) (views_of x) view
   pool_told shards same view name group last objects many slots told = record {
     name = name ∙ ap (λ (g : Geometry). vdev_name_of g.spec) laid;
     group = group;
@@ -210,8 +165,8 @@ module _ {R A : Type 0} (rack : racks.Ghosts R) (area : areas.Ghosts A) (pool : 
       shown : AreShown shards (views_of x)
       shown = subst (λ (xs : List (Shard R A)). AreShown xs (views_of x)) (sym same) pool_shown
 
-      here : AllZip (IsToldOf pool.own.objects) pool.metaslabs.shards.items view.metaslabs.items
-      here = subst (λ (xs : List (Shard R A)). AllZip (IsToldOf pool.own.objects) xs view.metaslabs.items) same told
+      here : AllZip IsToldOf pool.metaslabs.shards.items view.metaslabs.items
+      here = subst (λ (xs : List (Shard R A)). AllZip IsToldOf xs view.metaslabs.items) same told
 
 -- each shard has the pool's layout
 pub all_laid : {R A : Type 0} (rack : racks.Ghosts R) (area : areas.Ghosts A) (pool : Pool R A) → IsWhole rack area pool → All (λ (shard : Shard R A). shard.geometry ≡ pool.geometry) pool.metaslabs.shards.items

@@ -22,7 +22,7 @@ pub fn view<R: Rack, A: Area>(pool: &Pool<R, A>) -> Result<View, NoMemory>
     let shards = pool.metaslabs.shards.as_slice();
     let name = vdev_name(alloc, pool.geometry.spec)?;
     let slots = slot_views(alloc, shards, pool.geometry)?;
-    let metaslabs = metaslab_views(alloc, shards, &pool.own.objects)?;
+    let metaslabs = metaslab_views(alloc, shards)?;
     Ok(View {
         name,
         group: pool.committed(),

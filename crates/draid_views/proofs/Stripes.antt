@@ -1,7 +1,6 @@
 -- What a shard has of stripes, blocks, its pass and its groups is what states have for which it stands.
 use Rattle.std.proofs.Common.{◌≡◌, ◌+◌, ◌<◌, ◌≤◌, ◌↔◌, ◌∙◌, ℕ, Bool, true, false, List, Option, Some, None, if◌then◌else◌, arith, refl, sym, ap, subst, inl, inr, length, max, option_map}
-use Rattle.std.specs.Prelude.{slice_get, nat_eq}
-use Rattle.std.specs.HashMap.{HashMap, get}
+use Rattle.std.specs.Prelude.{slice_get}
 use Rattle.std.proofs.lemmas.Bool.{true≢false, cases_eq, cases_lt}
 use Rattle.std.specs.Ordering.{nat_cmp, ord_max}
 use Rattle.std.proofs.lemmas.Bool.Decides.{nat_tests}
@@ -13,6 +12,8 @@ use Rattle.draid_ranges.specs.Numbers.{count_below}
 use Rattle.draid_metaslab.specs.Spaces.{is_free}
 use Rattle.draid_machine.specs.declared.names.Held.{Held}
 use Rattle.draid_machine.specs.declared.names.Key.{Key}
+use Rattle.draid_machine.specs.declared.names.Stage.{Stage}
+use Rattle.draid_machine.specs.declared.names.Stage.TheVariants.{Live}
 use Rattle.draid_machine.specs.State as machine
 use Rattle.draid_machine.proofs.Small.{none_some, some_injective, some_same}
 use Rattle.draid_pass.specs.declared.pass.Pass.{Pass}
@@ -21,7 +22,7 @@ use Rattle.draid_slots.specs.States.{pass_in}
 use Rattle.draid_entries.specs.declared.entry.Entry.{Entry}
 use Rattle.draid_entries.specs.Entries.{IsEntered, entry_at}
 use Rattle.draid_entries.specs.Maps.{held_at, key_of, staged}
-use Rattle.draid_shard.specs.Looks.{IsNextHeld}
+use Rattle.draid_shard.specs.Looks.{IsLive, IsNextHeld}
 use Rattle.draid_shard.specs.Fits.{Valid}
 use Rattle.draid_shard.specs.declared.shard.Shard.{Shard}
 use Rattle.draid_shard.proofs.Held.{held_entry, key_leads}
@@ -29,36 +30,30 @@ use Rattle.draid_shard.proofs.Tables.{first_is}
 use Rattle.draid_report.specs.declared.view.PassView.{PassView}
 use Rattle.draid_session.specs.Holds.{View}
 use Rattle.draid_session.specs.Status.{HasCount, IsFreeStripe, IsGreatestOpen, PassIs}
-use Rattle.draid_views.specs.Views.{AreShown, IsPassTold, IsPointedAt, IsShown}
+use Rattle.draid_views.specs.Views.{AreShown, IsLiveAt, IsPassTold, IsShown}
 use Rattle.draid_views.proofs.Counts.{CountsBelow, counts_all, counts_next}
 use Rattle.draid_views.proofs.Zips.{zip_left, zip_right}
 
 -- ---- blocks
 
-module _ {R A S : Type 0} (objects : HashMap ℕ Pointer S) (shard : Shard R A) where
-  pointed_here : (pointer : Pointer) (b : Bool) → IsEntered shard.entries pointer → ((b ≡ true) ↔ (get nat_eq objects pointer.object ≡ Some pointer))
-      → (b ≡ true) ↔ IsPointedAt objects shard pointer.first
-  pointed_here pointer b at is = (
-    λ same. record { entry = staged at.stage pointer; there = at.there; pointed = is.0 same },
-    λ p. is.1 (back p.entry p.there p.pointed),
-  )
+module _ {R A : Type 0} (shard : Shard R A) where
+  live_here : (pointer : Pointer) (b : Bool) → IsEntered shard.entries pointer → ((b ≡ true) ↔ IsLive shard pointer) → (b ≡ true) ↔ IsLiveAt shard pointer.first
+  live_here pointer b at is = (λ same. record { pointer = pointer; there = is.0 same }, λ p. is.1 (back p.pointer p.there))
     where
-      back : (e : Entry) → entry_at shard.entries pointer.first ≡ Some e → get nat_eq objects e.pointer.object ≡ Some e.pointer → get nat_eq objects pointer.object ≡ Some pointer
-      back e there pointed =
-          let same : e ≡ staged at.stage pointer = some_same (entry_at shard.entries pointer.first) e (staged at.stage pointer) there at.there in
-          subst (λ (d : Entry). get nat_eq objects d.pointer.object ≡ Some d.pointer) same pointed
+      back : (q : Pointer) → entry_at shard.entries pointer.first ≡ Some (staged Live q) → IsLive shard pointer
+      back q there =
+          let same : staged Live q ≡ staged at.stage pointer = some_same (entry_at shard.entries pointer.first) (staged Live q) (staged at.stage pointer) there at.there in
+          subst (λ (s : Stage). entry_at shard.entries pointer.first ≡ Some (staged s pointer)) (sym (ap (λ (e : Entry). e.stage) same)) at.there
 
-  none_here : (x : ℕ) → entry_at shard.entries x ≡ None → IsPointedAt objects shard x → ⊥
-  none_here x none p = none_some (entry_at shard.entries x) p.entry none p.there
+  none_here : (x : ℕ) → entry_at shard.entries x ≡ None → IsLiveAt shard x → ⊥
+  none_here x none p = none_some (entry_at shard.entries x) (staged Live p.pointer) none p.there
 
-  pub pointed_next : (stripe blocks : ℕ) (pointer : Pointer) (b : Bool) → CountsBelow (IsPointedAt objects shard) stripe blocks → IsNextHeld shard stripe pointer
-      → ((b ≡ true) ↔ (get nat_eq objects pointer.object ≡ Some pointer)) → CountsBelow (IsPointedAt objects shard) (pointer.first + 1) (blocks + (if b then 1 else 0))
-  pointed_next stripe blocks pointer b was next is =
-      counts_next (IsPointedAt objects shard) stripe blocks was pointer.first b next.behind (λ x from low. none_here x (next.first x from low)) (pointed_here pointer b next.entered is)
+  pub live_next : (stripe blocks : ℕ) (pointer : Pointer) (b : Bool) → CountsBelow (IsLiveAt shard) stripe blocks → IsNextHeld shard stripe pointer → ((b ≡ true) ↔ IsLive shard pointer)
+      → CountsBelow (IsLiveAt shard) (pointer.first + 1) (blocks + (if b then 1 else 0))
+  live_next stripe blocks pointer b was next is = counts_next (IsLiveAt shard) stripe blocks was pointer.first b next.behind (λ x from low. none_here x (next.first x from low)) (live_here pointer b next.entered is)
 
-  pub pointed_all : (stripe blocks : ℕ) → CountsBelow (IsPointedAt objects shard) stripe blocks → stripe ≤ NUMBERS → ((x : ℕ) → stripe ≤ x → entry_at shard.entries x ≡ None)
-      → HasCount (IsPointedAt objects shard) blocks
-  pointed_all stripe blocks was low none = counts_all (IsPointedAt objects shard) stripe blocks was low (λ x from. none_here x (none x from))
+  pub live_all : (stripe blocks : ℕ) → CountsBelow (IsLiveAt shard) stripe blocks → stripe ≤ NUMBERS → ((x : ℕ) → stripe ≤ x → entry_at shard.entries x ≡ None) → HasCount (IsLiveAt shard) blocks
+  live_all stripe blocks was low none = counts_all (IsLiveAt shard) stripe blocks was low (λ x from. none_here x (none x from))
 
   pub pointer_low : (stripe : ℕ) (pointer : Pointer) → IsNextHeld shard stripe pointer → pointer.first < NUMBERS
   pointer_low stripe pointer next = (shard.entries.agree.found pointer.first (staged next.entered.stage pointer) next.entered.there).low

@@ -1,7 +1,6 @@
 -- What is told of the shards of a pool, for each list of looks at metaslabs for which they stand.
-use Rattle.std.specs.Prelude.{◌≡◌, ◌⊎◌, ⊤, ℕ, List, Option, Some, None, All, Contains, nat_eq, length, map, slice_get, string_bytes, sum_by}
+use Rattle.std.specs.Prelude.{◌≡◌, ◌⊎◌, ⊤, ℕ, List, Option, Some, None, All, Contains, length, map, slice_get, string_bytes, sum_by}
 use Rattle.std.specs.List.{AllZip}
-use Rattle.std.specs.HashMap.{HashMap, get}
 use Rattle.std.specs.declared.alloc.Global.{Global}
 use Rattle.std.specs.declared.vec.Vec.{Vec}
 use Rattle.draid_names.specs.declared.arm.Arm.{Arm}
@@ -11,11 +10,12 @@ use Rattle.draid_names.specs.declared.pointer.Pointer.{Pointer}
 use Rattle.draid_spec.specs.declared.layout.Geometry.{Geometry}
 use Rattle.draid_perm.specs.declared.perms.Perms.{Perms}
 use Rattle.draid_machine.specs.declared.names.ArmName.{ArmName}
+use Rattle.draid_machine.specs.declared.names.Stage.TheVariants.{Live}
 use Rattle.draid_machine.specs.State as machine
 use Rattle.draid_pass.specs.declared.pass.Pass.{Pass}
 use Rattle.draid_slots.specs.Table.{IsArmOf, SlotTable, arm_at, arms_of, count_at}
-use Rattle.draid_entries.specs.declared.entry.Entry.{Entry}
 use Rattle.draid_entries.specs.Entries.{entry_at}
+use Rattle.draid_entries.specs.Maps.{staged}
 use Rattle.draid_shard.specs.States.{IsIn}
 use Rattle.draid_shard.specs.declared.shard.Shard.{Shard}
 use Rattle.draid_report.specs.declared.view.ArmView.{ArmView}
@@ -46,11 +46,10 @@ StandsIn name views = (v : View) → Contains views v → (arm : machine.Arm) ×
 
 -- ---- metaslabs
 
--- the entry at a stripe is that of a block to which the table of objects points
-pub record IsPointedAt {R A S : Type 0} (objects : HashMap ℕ Pointer S) (shard : Shard R A) (x : ℕ) : Type 0 where
-  pub entry : Entry
-  pub there : entry_at shard.entries x ≡ Some entry
-  pub pointed : get nat_eq objects entry.pointer.object ≡ Some entry.pointer
+-- the entry at a stripe is that of a live block
+pub record IsLiveAt {R A : Type 0} (shard : Shard R A) (x : ℕ) : Type 0 where
+  pub pointer : Pointer
+  pub there : entry_at shard.entries x ≡ Some (staged Live pointer)
 
 -- what is told of a pass, if there is one
 abbrev pub IsPassTold : Option Pass → Option PassView → Type 0
@@ -58,10 +57,10 @@ IsPassTold None None = ⊤
 IsPassTold (Some p) (Some view) = (view.number ≡ p.number) × (view.kind ≡ p.kind) × (view.at ≡ p.at) × (view.errors ≡ p.errors)
 IsPassTold p view = ⊥
 
--- What is told of a shard. Its blocks are counted by the table of objects.
-pub record IsToldOf {R A S : Type 0} (objects : HashMap ℕ Pointer S) (shard : Shard R A) (view : MetaslabView) : Type 0 where
+-- What is told of a shard. Of its blocks those are counted that are live.
+pub record IsToldOf {R A : Type 0} (shard : Shard R A) (view : MetaslabView) : Type 0 where
   pub free : (v : View) → IsShown shard v → HasCount (IsFreeStripe shard.geometry shard.perms v) view.free
-  pub blocks : HasCount (IsPointedAt objects shard) view.blocks
+  pub blocks : HasCount (IsLiveAt shard) view.blocks
   pub pass : (v : View) → IsShown shard v → PassIs v.world.core.pass view.pass
 
 -- ---- arms

@@ -1,74 +1,58 @@
-ghost use Rattle.std.specs.Prelude.{◌≡◌, ◌<◌, ◌↔◌, ℕ, List, Some, All, IfOk, IsTrue, length, nat_eq};
-ghost use Rattle.std.specs.HashMap.{get};
+ghost use Rattle.std.specs.Prelude.{◌<◌, List, All, IfOk, length};
 ghost use Rattle.std.specs.List.{AllZip};
 ghost use Rattle.draid_shard.specs.Fits.{Valid};
 ghost use Rattle.draid_session.specs.Holds.{View};
 ghost use Rattle.draid_session.specs.Status.{HasCount, IsGreatestOpen};
-ghost use Rattle.draid_views.specs.Views.{AreShown, IsPassTold, IsPointedAt, IsToldOf};
+ghost use Rattle.draid_views.specs.Views.{AreShown, IsLiveAt, IsPassTold, IsToldOf};
 
 use draid_area::Area;
-use draid_names::{NoMemory, Pointer};
+use draid_names::NoMemory;
 use draid_pass::Pass;
 use draid_rack::Rack;
 use draid_report::{MetaslabView, PassView};
 use draid_shard::Shard;
 use std::alloc::Global;
-use std::collections::HashMap;
 
-/// What is told of each shard. Of blocks just those are counted to which the table of objects points.
+/// What is told of each shard. Of blocks just those are counted that are live.
 pub fn metaslab_views<R: Rack, A: Area>(
     alloc: Global,
     shards: &[Shard<R, A>],
-    objects: &HashMap<u64, Pointer>,
 ) -> Result<Vec<MetaslabView>, NoMemory>
     requires { All (Valid R.Rack) shards.now }
-    ensures { IfOk result (λ views. AllZip (IsToldOf objects.now) shards.now views.items) }
+    ensures { IfOk result (λ views. AllZip IsToldOf shards.now views.items) }
 {
     let mut views = Vec::new(alloc);
     for shard in shards {
-        views.push(metaslab_view(shard, objects))?;
+        views.push(metaslab_view(shard))?;
     }
     Ok(views)
 }
 
 /// What is told of one.
-fn metaslab_view<R: Rack, A: Area>(
-    shard: &Shard<R, A>,
-    objects: &HashMap<u64, Pointer>,
-) -> MetaslabView
+fn metaslab_view<R: Rack, A: Area>(shard: &Shard<R, A>) -> MetaslabView
     requires valid { Valid R.Rack shard.now }
-    ensures { IsToldOf objects.now shard.now result }
+    ensures { IsToldOf shard.now result }
 {
     MetaslabView {
         free: shard.space.free_stripes(),
-        blocks: pointed_blocks(shard, objects),
+        blocks: live_blocks(shard),
         pass: pass_view(&shard.pass),
     }
 }
 
-/// How many blocks the table of objects points to.
-fn pointed_blocks<R: Rack, A: Area>(shard: &Shard<R, A>, objects: &HashMap<u64, Pointer>) -> u64
-    ensures { HasCount (IsPointedAt objects.now shard.now) result }
+/// How many blocks are live.
+fn live_blocks<R: Rack, A: Area>(shard: &Shard<R, A>) -> u64
+    ensures { HasCount (IsLiveAt shard.now) result }
 {
     let mut blocks = 0;
     let mut stripe = 0;
     while let Some(pointer) = shard.next_held(stripe) {
-        if is_pointed(objects, &pointer) {
+        if shard.is_live(&pointer) {
             blocks += 1;
         }
         stripe = pointer.first + 1;
     }
     blocks
-}
-
-/// Whether the pointer stands in the table of objects.
-fn is_pointed(objects: &HashMap<u64, Pointer>, pointer: &Pointer) -> bool
-    ensures { IsTrue result ↔ (get nat_eq objects.now pointer.now.object ≡ Some pointer.now) }
-{
-    match objects.get(&pointer.object) {
-        Some(found) => *found == *pointer,
-        None => false,
-    }
 }
 
 /// What is told of a pass.

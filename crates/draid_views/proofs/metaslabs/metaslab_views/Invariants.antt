@@ -4,4 +4,4 @@ use Rattle.draid_views.specs.Views.{IsToldOf}
 use Rattle.draid_views.proofs.metaslabs.metaslab_views.Given as goal
 
 abbrev pub invariant-loop-shard : goal.invariant-loop-shard
-invariant-loop-shard g l = AllZip (IsToldOf l.objects) (take l.shard-index l.shards) l.views.items
+invariant-loop-shard g l = AllZip IsToldOf (take l.shard-index l.shards) l.views.items
