@@ -73,6 +73,7 @@ record Replanned (s new : machine.State) : Type 0 where
   image : new.image ≡ s.image
   sealed : new.sealed ≡ s.sealed
   asked : new.asked ≡ s.asked
+  open_group_is : new.open_group ≡ s.open_group
   arms : (n : ArmName) → option_map bare (seal_arm (new.core.arm n)) ≡ option_map bare (seal_arm (s.core.arm n))
   there : (n : ArmName) → IsSome (new.core.arm n) → IsSome (s.core.arm n)
 
@@ -81,7 +82,7 @@ was_there f None is = is
 was_there f (Some a) is = refl
 
 replanned : (l : machine.Layout) (s : machine.State) (test : ArmName → Bool) (o : Option machine.Pass) → Replanned s (replan l s test o)
-replanned l s test None = record { held = refl; order = refl; committed = refl; image = refl; sealed = refl; asked = refl; arms = λ n. refl; there = λ n some. some }
+replanned l s test None = record { held = refl; order = refl; committed = refl; image = refl; sealed = refl; asked = refl; open_group_is = refl; arms = λ n. refl; there = λ n some. some }
 replanned l s test (Some p) = by p.kind
   where
     by : (k : PassKind) → Replanned s (replan_kind l s test p k)
@@ -92,10 +93,11 @@ replanned l s test (Some p) = by p.kind
       image = refl;
       sealed = refl;
       asked = refl;
+      open_group_is = refl;
       arms = λ n. bare_filled _ (s.open_group + 1) (s.core.arm n);
       there = λ n some. was_there _ (s.core.arm n) some;
     }
-    by Heal = record { held = refl; order = refl; committed = refl; image = refl; sealed = refl; asked = refl; arms = λ n. refl; there = λ n some. some }
+    by Heal = record { held = refl; order = refl; committed = refl; image = refl; sealed = refl; asked = refl; open_group_is = refl; arms = λ n. refl; there = λ n some. some }
 
 -- ---- the arm that comes
 
@@ -107,6 +109,7 @@ record Arranged (w : machine.State) (slot : ℕ) (n : ArmName) (new : machine.St
   image : new.image ≡ w.image
   sealed : new.sealed ≡ w.sealed
   asked : new.asked ≡ w.asked
+  open_group_is : new.open_group ≡ w.open_group
   arms : (m : ArmName) → option_map bare (seal_arm (new.core.arm m)) ≡ (if name_eq n m then Some coming else option_map bare (seal_arm (w.core.arm m)))
   there : (m : ArmName) → IsSome (new.core.arm m) → (n ≡ m) ⊎ IsSome (w.core.arm m)
 
@@ -124,6 +127,7 @@ arranged l w slot n last =
       image = r.image;
       sealed = r.sealed;
       asked = r.asked;
+      open_group_is = r.open_group_is;
       arms = λ m. r.arms m ∙ (bare_renewed (has_moved l w.core q m) last (q.arm m) ∙ here m (name_eq n m));
       there = λ m some. came m (name_eq n m) refl (was_there (renew_if (has_moved l w.core q m) last) (q.arm m) (r.there m some));
     }
@@ -186,6 +190,7 @@ changed_state x shared l slot n y v step unsealed is low =
         ];
       };
       alike = alike_attached shared l y.world v.world slot n step unsealed is;
+      opens = (let same = r.open_group_is in omega (arith, same));
     }
 
 -- ---- the metaslab

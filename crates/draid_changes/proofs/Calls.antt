@@ -1,5 +1,5 @@
 -- A leaf goes offline in all metaslabs of a pool or comes back, or that is refused.
-use Rattle.std.proofs.Common.{◌≡◌, ◌≢◌, ◌<◌, ◌∙◌, ℕ, Bool, true, List, Option, Some, None, Ok, Err, refl, sym, ap, subst, length}
+use Rattle.std.proofs.Common.{◌≡◌, ◌≢◌, ◌<◌, ◌∙◌, ℕ, Bool, true, List, Option, Some, None, Ok, Err, refl, sym, ap, subst, length, arith}
 use Rattle.std.specs.Prelude.{option_map, slice_get}
 use Rattle.draid_names.specs.declared.arm.Arm.{Arm}
 use Rattle.draid_names.specs.declared.arm.ArmKind.{ArmKind}
@@ -157,7 +157,7 @@ module _ {R A : Type 0} (rack : racks.Ghosts R) (area : areas.Ghosts A) where
       → SameOwn late new → IsWhole rack area new
   switched_whole leaf offline late new w c set =
       whole_changed rack area (Switches rack leaf offline) late new w c set
-      (λ old now s. record { valid = s.valid; part = s.does.part; entries = s.keeps.entries; committed = s.keeps.groups.committed })
+      (λ old now s. record { valid = s.valid; part = s.does.part; entries = s.keeps.entries; committed = s.keeps.groups.committed; opens = (let same = s.keeps.groups.open_group_is in omega (arith, same)) })
       (λ k now at other own.
       (let was = changed_at (Switches rack leaf offline) late.metaslabs.shards.items new.metaslabs.shards.items c k now at in
       subst (λ u. other < next_leaf_of u) (sym set.uber) ((w.shards k was.0 was.1).leaves other (switched_leaf was.0.slots now.slots leaf offline was.2.slots other own))))

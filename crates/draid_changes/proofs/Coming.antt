@@ -206,7 +206,7 @@ module _ {R A : Type 0} (rack : racks.Ghosts R) (area : areas.Ghosts A) where
       → SameOwn late new → (k ≡ kind.Leaf → number < next_leaf_of late.uber) → IsWhole rack area new
   attached_whole slot k number late new w c set low =
       whole_changed rack area (Attaches rack slot k number) late new w c set
-      (λ old now s. record { valid = s.valid; part = s.does.part; entries = s.keeps.entries; committed = s.keeps.groups.committed })
+      (λ old now s. record { valid = s.valid; part = s.does.part; entries = s.keeps.entries; committed = s.keeps.groups.committed; opens = (let same = s.keeps.groups.open_group_is in omega (arith, same)) })
       (λ j now at other own.
       (let was = changed_at (Attaches rack slot k number) late.metaslabs.shards.items new.metaslabs.shards.items c j now at in
       subst (λ u. other < next_leaf_of u) (sym set.uber) (elim (attached_leaf was.0.slots now.slots slot (arm_called k number) other was.2.slots own) [

@@ -42,6 +42,7 @@ module _ {R A : Type 0} (rack : racks.Ghosts R) (area : areas.Ghosts A) where
     valid = r.valid;
     part = r.none.part;
     later = (let same = r.keeps.groups.committed in omega (arith, same));
+    opens = (let same = r.keeps.groups.open_group_is in omega (arith, same));
     groups = λ is. not_kept is;
     passes = λ other. pass_kept x.pass y.pass r.pass;
     others = record { each = λ key own. inl (r.keeps.entries.held key) };
@@ -70,6 +71,7 @@ module _ {R A : Type 0} (rack : racks.Ghosts R) (area : areas.Ghosts A) where
     valid = s.valid;
     part = s.does.part;
     later = (let same = s.keeps.groups.committed in omega (arith, same));
+    opens = (let same = s.keeps.groups.open_group_is in omega (arith, same));
     groups = λ is. not_kept is;
     passes = λ other. same_pass x.pass y.pass s.pass;
     others = record { each = λ key own. inl (s.keeps.entries.held key) };

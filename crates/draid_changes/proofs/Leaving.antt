@@ -153,7 +153,7 @@ module _ {R A : Type 0} (rack : racks.Ghosts R) (area : areas.Ghosts A) where
     pub left_whole : IsWhole rack area late → ((m : ℕ) (shard : Shard R A) → slice_get late.metaslabs.shards.items m ≡ Some shard → MayLeave rack at n shard) → IsWhole rack area new
     left_whole w ready =
         whole_changed rack area (Leaves rack at n) late new w changes set
-        (λ old now s. record { valid = s.valid; part = s.does.part; entries = s.keeps.entries; committed = s.keeps.groups.committed })
+        (λ old now s. record { valid = s.valid; part = s.does.part; entries = s.keeps.entries; committed = s.keeps.groups.committed; opens = (let same = s.keeps.groups.open_group_is in omega (arith, same)) })
         (λ k now there leaf own.
         (let was = changed_at (Leaves rack at n) late.metaslabs.shards.items new.metaslabs.shards.items changes k now there in
         subst (λ u. leaf < next_leaf_of u) (sym set.uber)

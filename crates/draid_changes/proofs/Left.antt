@@ -1,5 +1,5 @@
 -- An arm leaves its slot in a metaslab of a pool.
-use Rattle.std.proofs.Common.{◌≡◌, ◌∙◌, inl, inr, ℕ, Bool, true, false, List, Some, None, IsSome, filter, not, refl, sym, ap, subst, if◌then◌else◌, ◌==◌}
+use Rattle.std.proofs.Common.{◌≡◌, ◌∙◌, inl, inr, ℕ, Bool, true, false, List, Some, None, IsSome, filter, not, refl, sym, ap, subst, if◌then◌else◌, ◌==◌, arith}
 use Rattle.std.specs.Prelude.{option_map}
 use Rattle.draid_names.specs.declared.arm.ArmAt.{ArmAt}
 use Rattle.draid_rack.specs.declared.Rack as racks
@@ -52,6 +52,7 @@ record Rearranged (w : machine.State) (slot : ℕ) (n : ArmName) (new : machine.
   image : new.image ≡ w.image
   sealed : new.sealed ≡ w.sealed
   asked : new.asked ≡ w.asked
+  open_group_is : new.open_group ≡ w.open_group
   arms : (m : ArmName) → option_map bare (seal_arm (new.core.arm m)) ≡ (if name_eq n m then None else option_map bare (seal_arm (w.core.arm m)))
   there : (m : ArmName) → IsSome (new.core.arm m) → IsSome (w.core.arm m)
 
@@ -65,6 +66,7 @@ rearranged l w slot n a last found =
       image = refl;
       sealed = refl;
       asked = refl;
+      open_group_is = refl;
       arms = λ m. bare_renewed (has_moved l w.core q m) last (q.arm m) ∙ here m (name_eq n m);
       there = λ m some. stood m (name_eq n m) refl (was_there (renew_if (has_moved l w.core q m) last) (q.arm m) some);
     }
@@ -118,6 +120,7 @@ changed_state x shared slot n y v r unsealed is = record {
     now = λ other some. below.now other (r.there (Leaf other) some);
   };
   alike = alike_left shared y.world v.world slot n r unsealed is;
+  opens = (let same = r.open_group_is in omega (arith, same));
 }
 
 -- an image that stands behind it stood before it

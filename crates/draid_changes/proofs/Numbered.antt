@@ -1,6 +1,6 @@
 -- The uberblock of an open pool gets the number of the next leaf, while no group is closing.
-use Rattle.std.proofs.Common.{◌≡◌, ◌≤◌, ◌+◌, ◌∙◌, [], ◌∷◌, inl, inr, ℕ, true, Some, arith, refl, sym, ap, subst, slice_get}
-use Rattle.std.specs.Prelude.{nat_eq}
+use Rattle.std.proofs.Common.{◌≡◌, ◌≤◌, ◌+◌, ◌∙◌, [], ◌∷◌, inl, inr, ℕ, true, Some, arith, refl, sym, ap, subst, slice_get, ◌<◌}
+use Rattle.std.specs.Prelude.{nat_eq, ◌↔◌}
 use Rattle.std.specs.HashMap.{get}
 use Rattle.std.proofs.lemmas.List.Elements.{All-weaker}
 use Rattle.draid_rack.specs.declared.Rack as racks
@@ -27,7 +27,7 @@ use Rattle.draid_pool.specs.Pools.{Represents, part_in}
 use Rattle.draid_pool.specs.Records.{HasImage, LeavesAreBelow}
 use Rattle.draid_pool.specs.Syncing.{AreIdle, Phase}
 use Rattle.draid_pool.specs.Ubers.{IsPending, IsUber, kept_in, check_told}
-use Rattle.draid_pool.specs.Whole.{IsWhole}
+use Rattle.draid_pool.specs.Whole.{IsWhole, PointFits}
 use Rattle.draid_pool.specs.declared.pool.Pool.{Pool}
 use Rattle.draid_pool.proofs.Lifted.{HasMetaslab, metaslab_of}
 use Rattle.draid_pool.proofs.Steps.{carried}
@@ -37,6 +37,7 @@ use Rattle.draid_changes.proofs.Begun.{uber_of}
 use Rattle.draid_changes.proofs.Events.{unsealed}
 use Rattle.draid_uber.specs.Points.{told_at}
 use Rattle.draid_checkpoint.specs.Check.{Point}
+use Rattle.draid_session.specs.Points.{HasLateMark}
 
 -- an uberblock is another one with this number, which is no lower
 pub record SetsLeaf {A : Type 0} (area : areas.Ghosts A) (old new : Uber A) (next : ℕ) : Type 0 where
@@ -48,6 +49,7 @@ pub record SetsLeaf {A : Type 0} (area : areas.Ghosts A) (old new : Uber A) (nex
   pub layout : ubers.layout_of new ≡ ubers.layout_of old
   pub version : ubers.version_of new ≡ ubers.version_of old
   pub point : ubers.point_of new ≡ ubers.point_of old
+  pub changed : ubers.changed_of new ≡ ubers.changed_of old
 
 module _ {R A : Type 0} (rack : racks.Ghosts R) (area : areas.Ghosts A) (late : Pool R A) (u : Uber A) (next : ℕ) (set : SetsLeaf area late.uber u next) where
   pub numbered_whole : IsWhole rack area late → IsWhole rack area (record late { uber = u })
@@ -69,6 +71,8 @@ module _ {R A : Type 0} (rack : racks.Ghosts R) (area : areas.Ghosts A) (late : 
     objects = λ o q at. (let of = w.objects o q at in record { object_is = of.object_is; shard = of.shard; there = of.there; live = of.live });
     floor = subst (λ k. late.own.floor ≤ group_of k + 2) (sym set.kept) w.floor;
     low = w.low;
+    point = subst (λ p. PointFits 0 p (get nat_eq late.own.objects) late.own.seq) (sym set.point) w.point;
+    behind = λ own m z is there. w.behind own m z (ap (λ (p : Point). p.group) (sym set.point) ∙ is) there;
   }
 
   module _ (first : Shard R A) (there : slice_get late.metaslabs.shards.items 0 ≡ Some first) (idle : AreIdle late.metaslabs.shards.items) (x : State) (r : Represents rack area late x) where
@@ -107,6 +111,7 @@ module _ {R A : Type 0} (rack : racks.Ghosts R) (area : areas.Ghosts A) (late : 
       kept = set.kept ∙ is.kept;
       next_leaf = set.next_is;
       point = λ group late. ap (λ (p : Point). told_at p group) set.point ∙ is.point group late;
+      late = λ group above. subst (λ n. HasLateMark group x.store.marks ↔ (group < n)) (sym set.changed) (is.late group above);
       count = is.count ∙ sym (ap (count_in area.faults) set.areas_is);
       stands = record {
         pending = is.stands.pending;
@@ -125,6 +130,8 @@ module _ {R A : Type 0} (rack : racks.Ghosts R) (area : areas.Ghosts A) (late : 
       each = s.each;
       holds = s.holds;
       only = s.only;
+      checks = s.checks;
+      marked = s.marked;
       objects = s.objects;
       images = s.images;
       leaves = record {

@@ -74,7 +74,7 @@ module _ {R A : Type 0} (rack : racks.Ghosts R) (area : areas.Ghosts A) where
 
   whole_then : (m : ℕ) (mid new : Pool R A) (shard after : Shard R A) (result : Result Unit ReserveFault) → IsWhole rack area mid → SetsShard rack area m mid new shard after → ReservesOne rack shard result after → IsWhole rack area new
   whole_then m mid new shard after result w set e = whole_on rack area m mid new shard after w set e.valid
-      (record { part = e.none.part; entries = e.keeps.entries; committed = e.keeps.groups.committed; slots = arms_kept shard.slots after.slots e.slots })
+      (record { part = e.none.part; entries = e.keeps.entries; committed = e.keeps.groups.committed; opens = (let same = e.keeps.groups.open_group_is in omega (arith, same)); slots = arms_kept shard.slots after.slots e.slots })
 
   later_then : (m : ℕ) (pool mid new : Pool R A) (shard after : Shard R A) (result : Result Unit ReserveFault) → AreasLater area.faults pool mid → SetsShard rack area m mid new shard after → ReservesOne rack shard result after → AreasLater area.faults pool new
   later_then m pool mid new shard after result later set e = areas_on area.faults pool mid new later (areas_set rack area m mid new shard after set (records_same area.faults shard after e.kit.areas))

@@ -39,7 +39,7 @@ use Rattle.draid_changes.specs.declared.need.Need.TheVariants as needs
 use Rattle.draid_changes.specs.Walks.{end_of_reserving, events_at, events_in}
 
 pub kept_here : (w : machine.State) → KeepsCommitted w w
-kept_here w = record { held = refl; committed = refl; images = λ image is. is; leaves = λ kept_leaf next_leaf below. below; alike = λ shared is. is }
+kept_here w = record { held = refl; committed = refl; images = λ image is. is; leaves = λ kept_leaf next_leaf below. below; alike = λ shared is. is; opens = omega arith }
 
 -- a refusal is no way through
 pub not_through : (why : ReserveFault) → end_of_reserving (Err why) ≢ Went

@@ -123,6 +123,7 @@ changed_state x shared leaf offline y v step unsealed is = record {
     now = λ other some. below.now other (was_arm y.world v.world leaf offline other step some);
   };
   alike = alike_switched shared y.world v.world leaf offline step unsealed is;
+  opens = (let same = ap (λ (s : machine.State). s.open_group) step.made in omega (arith, same));
 }
 
 -- ---- the metaslab

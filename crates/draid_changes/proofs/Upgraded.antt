@@ -1,6 +1,6 @@
 -- Version 2 is asked for in all metaslabs of a pool and of its uberblock.
-use Rattle.std.proofs.Common.{◌≡◌, ◌+◌, ◌++◌, ◌∙◌, [], ◌∷◌, inl, inr, ℕ, true, false, List, Option, Some, None, arith, refl, sym, ap, subst, length}
-use Rattle.std.specs.Prelude.{nat_eq, slice_get}
+use Rattle.std.proofs.Common.{◌≡◌, ◌+◌, ◌++◌, ◌∙◌, [], ◌∷◌, inl, inr, ℕ, true, false, List, Option, Some, None, arith, refl, sym, ap, subst, length, ◌<◌}
+use Rattle.std.specs.Prelude.{nat_eq, slice_get, ◌↔◌}
 use Rattle.std.specs.HashMap.{get}
 use Rattle.std.proofs.lemmas.List.Elements.{All-weaker}
 use Rattle.std.proofs.lemmas.Option.{slice_get_within}
@@ -17,7 +17,7 @@ use Rattle.draid_shard.specs.Part.{Part}
 use Rattle.draid_shard.specs.declared.shard.Shard.{Shard}
 use Rattle.draid_uber.specs.Checks.{AreasStand, count_in, told_by}
 use Rattle.draid_uber.specs.Uber as ubers
-use Rattle.draid_uber.specs.Uber.{areas_of, kept_of, layout_of, next_leaf_of, version_of, point_of}
+use Rattle.draid_uber.specs.Uber.{areas_of, kept_of, layout_of, next_leaf_of, version_of, point_of, changed_of}
 use Rattle.draid_uber.specs.declared.uber.Uber.{Uber}
 use Rattle.draid_session.specs.Arms as arms
 use Rattle.draid_session.specs.Holds.{AsksVersion, Did, OnUber, UberView}
@@ -45,6 +45,7 @@ use Rattle.draid_changes.proofs.Switched.{counts_stay}
 use Rattle.draid_changes.proofs.Walk.{ChangesAll, IsChanged, changes_all}
 use Rattle.draid_uber.specs.Points.{told_at}
 use Rattle.draid_checkpoint.specs.Check.{Point}
+use Rattle.draid_session.specs.Points.{HasLateMark}
 
 -- ---- a metaslab
 
@@ -62,6 +63,7 @@ changed_state x shared y v step none is = record {
     versions = record { asked = refl; kept = is.versions.kept; sealed = λ image of. absurd (none_some y.world.sealed image none of) };
     same = record { order = is.same.order; now = is.same.now; kept = is.same.kept; sealed = is.same.sealed };
   });
+  opens = (let same = ap (λ (s : machine.State). s.open_group) step.made in omega (arith, same));
 }
 
 module _ {R A : Type 0} (rack : racks.Ghosts R) (area : areas.Ghosts A) where
@@ -91,6 +93,7 @@ module _ {R A : Type 0} (rack : racks.Ghosts R) (area : areas.Ghosts A) where
     pub layout : layout_of new ≡ layout_of old
     pub next_leaf : next_leaf_of new ≡ next_leaf_of old
     pub point : point_of new ≡ point_of old
+    pub changed : changed_of new ≡ changed_of old
 
   -- where no group is closing no commit was refused
   idle_settled : (pool : Pool R A) (x : State) → Represents rack area pool x → AreIdle pool.metaslabs.shards.items → x.pending ≡ false
@@ -131,6 +134,7 @@ module _ {R A : Type 0} (rack : racks.Ghosts R) (area : areas.Ghosts A) where
     kept = a.kept ∙ is.kept;
     next_leaf = a.next_leaf ∙ is.next_leaf;
     point = λ group late. ap (λ (p : Point). told_at p group) a.point ∙ is.point group late;
+    late = λ group above. subst (λ n. HasLateMark group x.store.marks ↔ (group < n)) (sym a.changed) (is.late group above);
     count = is.count ∙ ap (count_in area.faults) (sym a.areas_is);
     stands = record {
       pending = is.stands.pending;
@@ -149,6 +153,8 @@ module _ {R A : Type 0} (rack : racks.Ghosts R) (area : areas.Ghosts A) where
     each = s.each;
     holds = s.holds;
     only = s.only;
+    checks = s.checks;
+    marked = s.marked;
     objects = s.objects;
     images = s.images;
     leaves = record { order = s.leaves.order; each = s.leaves.each };

@@ -1,6 +1,8 @@
 -- A whole pool stays whole as version 2 is asked for.
 use Rattle.std.proofs.Common.{◌≡◌, ◌∙◌, inl, inr, ℕ, Some, arith, refl, sym, ap, subst, length}
-use Rattle.std.specs.Prelude.{slice_get}
+use Rattle.std.specs.Prelude.{nat_eq, slice_get}
+use Rattle.std.specs.HashMap.{get}
+use Rattle.draid_checkpoint.specs.Check.{Point}
 use Rattle.draid_rack.specs.declared.Rack as racks
 use Rattle.draid_area.specs.declared.Area as areas
 use Rattle.draid_shard.specs.Alike.{KeepsArms}
@@ -12,7 +14,7 @@ use Rattle.draid_uber.specs.Slots.{group_of}
 use Rattle.draid_uber.specs.Uber.{layout_of}
 use Rattle.draid_pool.specs.Failing.{AreasLater}
 use Rattle.draid_pool.specs.Syncing.{AreIdle}
-use Rattle.draid_pool.specs.Whole.{IsWhole}
+use Rattle.draid_pool.specs.Whole.{IsWhole, PointFits}
 use Rattle.draid_pool.specs.declared.pool.Pool.{Pool}
 use Rattle.draid_pool.proofs.Arms.{all_kept, leaf_kept}
 use Rattle.draid_pool.proofs.Lists.{some_of}
@@ -27,8 +29,8 @@ use Rattle.draid_changes.proofs.Whole.{IsStill, whole_changed}
 
 module _ {R A : Type 0} (rack : racks.Ghosts R) (area : areas.Ghosts A) where
   still : (old now : Shard R A) → UpgradesIn rack old now → IsStill rack old now
-  still old now (inl s) = record { valid = s.valid; part = s.does.part; entries = s.keeps.entries; committed = s.keeps.groups.committed }
-  still old now (inr s) = subst (IsStill rack old) (sym s.0) (record { valid = s.2; part = refl; entries = same_entries old.entries; committed = refl })
+  still old now (inl s) = record { valid = s.valid; part = s.does.part; entries = s.keeps.entries; committed = s.keeps.groups.committed; opens = (let same = s.keeps.groups.open_group_is in omega (arith, same)) }
+  still old now (inr s) = subst (IsStill rack old) (sym s.0) (record { valid = s.2; part = refl; entries = same_entries old.entries; committed = refl; opens = omega arith })
 
   slots_stay : (old now : Shard R A) → UpgradesIn rack old now → KeepsArms old.slots now.slots
   slots_stay old now (inl s) = s.slots
@@ -75,6 +77,8 @@ module _ {R A : Type 0} (rack : racks.Ghosts R) (area : areas.Ghosts A) where
       objects = λ o q at. (let of = w.objects o q at in record { object_is = of.object_is; shard = of.shard; there = of.there; live = of.live });
       floor = (let fits = w.floor in omega (arith, fits, kept));
       low = w.low;
+      point = subst (λ p. PointFits 0 p (get nat_eq new.own.objects) new.own.seq) (sym a.uber.point) w.point;
+      behind = λ own k z is at. w.behind own k z (ap (λ (p : Point). p.group) (sym a.uber.point) ∙ is) at;
     })
 
     -- no call on an area came

@@ -75,13 +75,14 @@ changed_at Changes old new c k y at =
 
 -- ---- metaslabs
 
--- A metaslab was changed, but for what it holds, its committed group, its images and that leaves have low numbers. It has then what all come to have in common.
+-- A metaslab was changed, but for what it holds, its groups, its images and that leaves have low numbers. It has then what all come to have in common.
 pub record IsChanged (x : State) (after : Shared) (y v : Metaslab) : Type 0 where
   pub held : v.world.core.held ≡ y.world.core.held
   pub committed : v.world.committed ≡ y.world.committed
   pub images : (image : machine.Image) → IsImage y.world image → IsImage v.world image
   pub leaves : LeavesAreBelow x.kept_leaf x.next_leaf y.world → LeavesAreBelow x.kept_leaf x.next_leaf v.world
   pub alike : IsAlike after v.world
+  pub opens : y.world.open_group ≤ v.world.open_group
 
 -- those below a number have by then what all come to have in common, and the others have what they had
 abbrev pub ChangedUpto : State → Shared → Shared → ℕ → ℕ → Metaslab → Type 0
@@ -136,6 +137,7 @@ module _ {R A : Type 0} (rack : racks.Ghosts R) (area : areas.Ghosts A) (old new
       held = λ key. inl (ap (λ held. held key) turns.done.1.held);
       images = λ group may some has. record { image = has.image; is = turns.done.1.images has.image has.is; of = has.of };
       leaves = turns.done.1.leaves;
+      opens = turns.done.1.opens;
     }
 
     came_on : CameTo (m + 1)
@@ -196,6 +198,8 @@ module _ {R A : Type 0} (rack : racks.Ghosts R) (area : areas.Ghosts A) (old new
       each = c.stood.each;
       holds = c.stood.holds;
       only = c.stood.only;
+      checks = c.stood.checks;
+      marked = c.stood.marked;
       objects = c.stood.objects;
       images = c.stood.images;
       leaves = c.stood.leaves;
@@ -216,6 +220,8 @@ module _ {R A : Type 0} (rack : racks.Ghosts R) (area : areas.Ghosts A) (old new
       each = s.each;
       holds = s.holds;
       only = s.only;
+      checks = s.checks;
+      marked = s.marked;
       objects = s.objects;
       images = s.images;
       leaves = s.leaves;

@@ -24,20 +24,22 @@ use Rattle.draid_shard.specs.declared.shard.Shard.{Shard}
 use Rattle.draid_uber.specs.Slots.{group_of}
 use Rattle.draid_uber.specs.Uber as ubers
 use Rattle.draid_uber.specs.Uber.{kept_of, next_leaf_of}
-use Rattle.draid_pool.specs.Whole.{IsPointer, IsShardOf, IsWhole}
+use Rattle.draid_pool.specs.Whole.{IsPointer, IsShardOf, IsWhole, PointFits}
 use Rattle.draid_pool.specs.declared.pool.Pool.{Pool}
 use Rattle.draid_pool.proofs.Arms.{AllShare}
 use Rattle.draid_pool.proofs.Lists.{present}
 use Rattle.draid_pool.proofs.Versions.{same_uber_layout}
+use Rattle.draid_pool.proofs.Wholes.{fits_on}
 use Rattle.draid_changes.specs.Walks.{ChangedBelow}
 use Rattle.draid_changes.proofs.Walk.{changed_at}
 
--- a shard is another one of the same metaslab, with the same blocks and the same committed group
+-- a shard is another one of the same metaslab, with the same blocks, the same committed group and no lower one that is open
 pub record IsStill {R A : Type 0} (rack : racks.Ghosts R) (old new : Shard R A) : Type 0 where
   pub valid : Valid rack new
   pub part : part_of new ≡ part_of old
   pub entries : SameEntries old.entries new.entries
   pub committed : new.committed ≡ old.committed
+  pub opens : old.open_group ≤ new.open_group
 
 -- all that a pool has besides its metaslabs is as it was
 pub record SameOwn {R A : Type 0} (pool new : Pool R A) : Type 0 where
@@ -63,6 +65,13 @@ module _ {R A : Type 0} (rack : racks.Ghosts R) (area : areas.Ghosts A) where
         objects = λ o q at. pointer o q (w.objects o q (sym (ap (λ os. get nat_eq os o) set.objects) ∙ at));
         floor = subst (λ u. new.own.floor ≤ group_of (kept_of u) + 2) (sym set.uber) (let fits = w.floor in let same = set.floor in omega (arith, fits, same));
         low = (let low = w.low in let same = set.floor in omega (arith, low, same));
+        point = subst (λ u. PointFits 0 (ubers.point_of u) (get nat_eq new.own.objects) new.own.seq) (sym set.uber)
+            (fits_on 0 (ubers.point_of pool.uber) (get nat_eq pool.own.objects) (get nat_eq new.own.objects) pool.own.seq new.own.seq (let same = set.seq in omega (arith, same)) (λ o q at. sym (ap (λ os. get nat_eq os o) set.objects) ∙ at) w.point);
+        behind = λ own k z is there.
+            (let was = changed_at Changes pool.metaslabs.shards.items new.metaslabs.shards.items c k z there in
+            let low = w.behind own k was.0 (ap (λ u. (ubers.point_of u).group) (sym set.uber) ∙ is) was.1 in
+            let opens = (still was.0 z was.2).opens in
+            omega (arith, low, opens));
       }
     where
       each : (k : ℕ) (z : Shard R A) → slice_get new.metaslabs.shards.items k ≡ Some z → IsShardOf rack w.perms new k z

@@ -48,9 +48,12 @@ is_one (Some pass) none is false_is = refl
 
 -- ---- states
 
+same_low : (n : ℕ) → n ≤ n
+same_low n = omega arith
+
 cancel_state : (w v : machine.State) → CancelStep w v → KeepsImages w v
 cancel_state w v step =
-    subst (KeepsImages w) (sym step.made) (record { image = refl; sealed = refl; leaves = λ leaf some. some; asked = refl; arms = record { order = λ slot. refl; arms = λ n. refl } })
+    subst (KeepsImages w) (sym step.made) (record { image = refl; sealed = refl; leaves = λ leaf some. some; asked = refl; arms = record { order = λ slot. refl; arms = λ n. refl }; opens = same_low w.open_group })
 
 -- a cancel leaves the images
 cancel_images : (geometry : Geometry) (perms : Perms) (l : machine.Layout) (m ended : ℕ) (x z : Metaslab) (act : Act) → MetaslabActs l act x z → passes.CancelsAt geometry perms m (On (view_of m x) act) ended → KeepsImages x.world z.world
@@ -97,6 +100,7 @@ module _ {R A : Type 0} (rack : racks.Ghosts R) (area : areas.Ghosts A) where
     valid = c.valid;
     part = c.part;
     later = (let same = c.blocks.groups.committed in omega (arith, same));
+    opens = (let same = c.blocks.groups.open_group_is in omega (arith, same));
     groups = λ other. c.groups;
     passes = λ is. pass_may_go is;
     others = record { each = λ key own. inl (c.blocks.entries.held key) };

@@ -47,10 +47,11 @@ keeps_cancelled w v step = record {
     versions = record { asked = is.versions.asked; kept = is.versions.kept; sealed = is.versions.sealed };
     same = record { order = is.same.order; now = is.same.now; kept = is.same.kept; sealed = is.same.sealed };
   });
+  opens = (let same = ap (λ (s : machine.State). s.open_group) step.made in omega (arith, same));
 }
 
 keeps_same : (w : machine.State) → KeepsCommitted w w
-keeps_same w = record { held = refl; committed = refl; images = λ image own. own; leaves = λ kept_leaf next_leaf below. below; alike = λ shared is. is }
+keeps_same w = record { held = refl; committed = refl; images = λ image own. own; leaves = λ kept_leaf next_leaf below. below; alike = λ shared is. is; opens = omega arith }
 
 -- ---- the metaslab
 

@@ -1,5 +1,5 @@
 -- Holds of one metaslab of a pool that leave what it holds as it was, where its blocks may have other pieces of the same length and digest then.
-use Rattle.std.proofs.Common.{◌≡◌, ◌∙◌, inl, inr, ℕ, List, Option, Some, None, arith, refl, sym, ap, subst, slice_set, length}
+use Rattle.std.proofs.Common.{◌≡◌, ◌∙◌, inl, inr, ℕ, List, Option, Some, None, arith, refl, sym, ap, subst, slice_set, length, false}
 use Rattle.std.specs.Prelude.{nat_eq, slice_get}
 use Rattle.std.specs.HashMap.{get}
 use Rattle.std.proofs.lemmas.Bool.{cases_eq}
@@ -32,6 +32,7 @@ use Rattle.draid_pool.proofs.Moved.{Turned, pointer_on, blocks_at, follows_one, 
 use Rattle.draid_pool.proofs.Owning.{pieces_on}
 use Rattle.draid_pool.specs.Bytes.{HasBytes, KeepsContents}
 use Rattle.draid_visits.specs.Pieces.{GoesTo, SameContents}
+use Rattle.draid_objects.specs.Marks.{check_by, is_dropped}
 
 -- what is so of the pieces of each key is so of those of each block
 pub contents_by : (part : Part) (x : Metaslab) (pieces later : Pieces) → KeepsContents part x pieces later → SameContents part x pieces later
@@ -143,14 +144,14 @@ module _ {R A : Type 0} (rack : racks.Ghosts R) (area : areas.Ghosts A) where
         let blocks : blocks_of (slice_set x.metaslabs m y') ≡ blocks_of x.metaslabs = same_blocks x.metaslabs m y y' at same.held in
         let holds : HoldsObjects x.geometry x.committed x.store (blocks_of (slice_set x.metaslabs m y')) turned
         = subst (λ b. HoldsObjects x.geometry x.committed x.store b turned) (sym blocks)
-        (record { stores = s.holds.stores; unmarked = s.holds.unmarked; floors = s.holds.floors; settled = s.holds.settled; numbered = s.holds.numbered; bytes = bytes_turned }) in
+        (record { stores = s.holds.stores; floors = s.holds.floors; settled = s.holds.settled; numbered = s.holds.numbered; positive = s.holds.positive; bytes = bytes_turned }) in
         record {
-          stands = stands_turned rack area m pool new shard shard' (λ object. get nat_eq pool.own.objects object) (λ object. get nat_eq new.own.objects object) x y y' later x.store s t holds
+          stands = stands_turned rack area m pool new shard shard' (λ object. get nat_eq pool.own.objects object) (λ object. get nat_eq new.own.objects object) x y y' later x.store s t holds refl (omega arith)
               s.groups.next s.groups.last
               (λ object. subst (λ objects. PointsTo new.metaslabs.shards.items (get nat_eq objects object) (write_of x.store.changes object)) (sym set.objects)
               (points_on y' (get nat_eq pool.own.objects object) (write_of x.store.changes object) t same.held (s.objects object)))
               (s.seq ∙ sym set.seq) (s.floor ∙ sym set.floor);
-          only = subst (λ (b : Blocks). (n : ℕ) (k : Key) (h : Held) → b n k ≡ Some h → h.stage ≡ Live → IsLastAt n k (write_of x.store.changes k.object)) (sym blocks) r.only;
+          only = subst (λ (b : Blocks). (n : ℕ) (k : Key) (h : Held) → b n k ≡ Some h → h.stage ≡ Live → is_dropped (check_by x.store.marks) k ≡ false → IsLastAt n k (write_of x.store.changes k.object)) (sym blocks) r.only;
         }
 
   -- what they did, as a call of the pool

@@ -1,5 +1,5 @@
 -- What the events of a pass leave of a metaslab.
-use Rattle.std.proofs.Common.{◌≡◌, ◌+◌, ◌⊎◌, inl, inr, [], ◌∷◌, ℕ, Bool, true, false, List, Option, Some, None, IsSome, arith, refl, sym, ap, subst, if◌then◌else◌}
+use Rattle.std.proofs.Common.{◌≡◌, ◌+◌, ◌⊎◌, inl, inr, [], ◌∷◌, ℕ, Bool, true, false, List, Option, Some, None, IsSome, arith, refl, sym, ap, subst, if◌then◌else◌, ◌≤◌}
 use Rattle.std.specs.Prelude.{⊤, nat_lt}
 use Rattle.draid_rack.specs.declared.Rack as racks
 use Rattle.draid_area.specs.declared.Area as areas
@@ -46,6 +46,9 @@ pub record Leaves (w v : machine.State) : Type 0 where
   pub held : v.core.held ≡ w.core.held
   pub committed : v.committed ≡ w.committed
 
+same_low : (n : ℕ) → n ≤ n
+same_low n = omega arith
+
 made_leaves : (w v s : machine.State) → v ≡ s → Leaves w s → Leaves w v
 made_leaves w v s made leaves = subst (Leaves w) (sym made) leaves
 
@@ -56,12 +59,12 @@ from_mapped f (Some a) some = refl
 mend_leaves : (l : machine.Layout) (w : machine.State) (p : machine.Pass) (n : machine.Loan) (h : Held) (failed : List ℕ) (b : Bool)
     → Leaves w (if b then pass_over w p 1 (n.stripe + 1) else mend_state l w p n h failed)
 mend_leaves l w p n h failed true = record {
-  images = record { image = refl; sealed = refl; leaves = λ leaf some. some; asked = refl; arms = record { order = λ slot. refl; arms = λ n. refl } };
+  images = record { image = refl; sealed = refl; leaves = λ leaf some. some; asked = refl; arms = record { order = λ slot. refl; arms = λ n. refl }; opens = same_low w.open_group };
   held = refl;
   committed = refl;
 }
 mend_leaves l w p n h failed false = record {
-  images = record { image = refl; sealed = refl; leaves = λ leaf some. some; asked = refl; arms = record { order = λ slot. refl; arms = λ n. refl } };
+  images = record { image = refl; sealed = refl; leaves = λ leaf some. some; asked = refl; arms = record { order = λ slot. refl; arms = λ n. refl }; opens = same_low w.open_group };
   held = refl;
   committed = refl;
 }
@@ -75,19 +78,20 @@ rebuild_leaves l w v (Plan kind) step is =
         leaves = λ leaf some. from_mapped _ (w.core.arm (Leaf leaf)) some;
         asked = refl;
         arms = record { order = λ slot. refl; arms = λ n. same_bare _ (w.core.arm n) (λ a. refl) };
+        opens = same_low w.open_group;
       };
       held = refl;
       committed = refl;
     })
 rebuild_leaves l w v Ready step is =
     made_leaves w v _ step.made (record {
-      images = record { image = refl; sealed = refl; leaves = λ leaf some. some; asked = refl; arms = record { order = λ slot. refl; arms = λ n. refl } };
+      images = record { image = refl; sealed = refl; leaves = λ leaf some. some; asked = refl; arms = record { order = λ slot. refl; arms = λ n. refl }; opens = same_low w.open_group };
       held = refl;
       committed = refl;
     })
 rebuild_leaves l w v (Lend failed) step is =
     made_leaves w v _ step.made (record {
-      images = record { image = refl; sealed = refl; leaves = λ leaf some. some; asked = refl; arms = record { order = λ slot. refl; arms = λ n. refl } };
+      images = record { image = refl; sealed = refl; leaves = λ leaf some. some; asked = refl; arms = record { order = λ slot. refl; arms = λ n. refl }; opens = same_low w.open_group };
       held = refl;
       committed = refl;
     })
@@ -101,6 +105,7 @@ rebuild_leaves l w v (Done failed) step is =
         leaves = λ leaf some. from_mapped _ (w.core.arm (Leaf leaf)) some;
         asked = refl;
         arms = record { order = λ slot. refl; arms = λ n. same_bare _ (w.core.arm n) (λ a. refl) };
+        opens = same_low w.open_group;
       };
       held = refl;
       committed = refl;
@@ -110,12 +115,12 @@ rebuild_leaves l w v e step is = absurd is
 heal_leaves : (l : machine.Layout) (w : machine.State) (p : machine.Pass) (n : machine.Loan) (h : Held) (failed : List ℕ) (patched : List Patched) (unreadable whole : Bool)
     → Leaves w (land_block_state l w p n h failed patched unreadable whole)
 heal_leaves l w p n h failed patched true whole = record {
-  images = record { image = refl; sealed = refl; leaves = λ leaf some. some; asked = refl; arms = record { order = λ slot. refl; arms = λ n. refl } };
+  images = record { image = refl; sealed = refl; leaves = λ leaf some. some; asked = refl; arms = record { order = λ slot. refl; arms = λ n. refl }; opens = same_low w.open_group };
   held = refl;
   committed = refl;
 }
 heal_leaves l w p n h failed patched false whole = record {
-  images = record { image = refl; sealed = refl; leaves = λ leaf some. some; asked = refl; arms = record { order = λ slot. refl; arms = λ n. refl } };
+  images = record { image = refl; sealed = refl; leaves = λ leaf some. some; asked = refl; arms = record { order = λ slot. refl; arms = λ n. refl }; opens = same_low w.open_group };
   held = refl;
   committed = refl;
 }

@@ -33,6 +33,7 @@ module _ {R A : Type 0} (rack : racks.Ghosts R) (area : areas.Ghosts A) where
     valid = r.valid;
     part = r.part;
     later = (let same = r.blocks.groups.committed in omega (arith, same));
+    opens = (let same = r.blocks.groups.open_group_is in omega (arith, same));
     groups = λ other. r.groups;
     passes = λ is. pass_may_go is;
     others = record { each = λ key own. inl (r.blocks.entries.held key) };

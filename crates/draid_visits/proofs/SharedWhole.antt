@@ -17,13 +17,14 @@ use Rattle.draid_shard.specs.declared.shard.Shard.{Shard}
 use Rattle.draid_uber.specs.Slots.{group_of}
 use Rattle.draid_uber.specs.Uber as ubers
 use Rattle.draid_uber.specs.Uber.{kept_of}
-use Rattle.draid_pool.specs.Whole.{IsPointer, IsShardOf, IsWhole}
+use Rattle.draid_pool.specs.Whole.{IsPointer, IsShardOf, IsWhole, PointFits}
 use Rattle.draid_pool.specs.declared.pool.Pool.{Pool}
 use Rattle.draid_pool.proofs.Arms.{have_from}
 use Rattle.draid_pool.proofs.Lifted.{SetsShard}
 use Rattle.draid_pool.proofs.Lists.{get_set_other, get_set_same, some_of}
 use Rattle.draid_pool.proofs.Versions.{same_uber_layout}
 use Rattle.draid_visits.specs.Steps.{SharesTable}
+use Rattle.draid_pool.proofs.Wholes.{fits_on}
 
 -- ---- arms
 
@@ -110,6 +111,16 @@ module _ {R A : Type 0} (rack : racks.Ghosts R) (area : areas.Ghosts A) (m : ℕ
     | inr other ↦ record { object_is = of.object_is; shard = of.shard; there = at_other q.metaslab other ∙ of.there; live = of.live }
   ]
 
+  behind : (k : ℕ) (z : Shard R A) → slice_get new.metaslabs.shards.items k ≡ Some z → (group : ℕ) → (ubers.point_of pool.uber).group ≡ Some group → group < z.open_group
+  behind k z there group is = elim (cases_eq k m) [
+    | inl same ↦
+        let here : after ≡ z = some_of (slice_get new.metaslabs.shards.items m) after z at_here (subst (λ j. slice_get new.metaslabs.shards.items j ≡ Some z) same there) in
+        let low = w.behind group m shard is set.there in
+        let opens = table.opens in
+        subst (λ (q : Shard R A). group < q.open_group) here (omega (arith, low, opens))
+    | inr other ↦ w.behind group k z is (sym (at_other k other) ∙ there)
+  ]
+
   pub whole_shared : IsWhole rack area new
   whole_shared = record {
     perms = w.perms;
@@ -122,4 +133,7 @@ module _ {R A : Type 0} (rack : racks.Ghosts R) (area : areas.Ghosts A) (m : ℕ
     objects = λ object q at. pointer object q (w.objects object q (ap (λ os. get nat_eq os object) (sym set.objects) ∙ at));
     floor = (let fits = w.floor in let same = set.floor in let group = ap (λ u. group_of (kept_of u)) set.uber in omega (arith, fits, same, group));
     low = (let low = w.low in let same = set.floor in omega (arith, low, same));
+    point = subst (λ u. PointFits 0 (ubers.point_of u) (get nat_eq new.own.objects) new.own.seq) (sym set.uber)
+        (fits_on 0 (ubers.point_of pool.uber) (get nat_eq pool.own.objects) (get nat_eq new.own.objects) pool.own.seq new.own.seq (let same = set.seq in omega (arith, same)) (λ o q at. sym (ap (λ os. get nat_eq os o) set.objects) ∙ at) w.point);
+    behind = λ group k z is there. behind k z there group (ap (λ u. (ubers.point_of u).group) (sym set.uber) ∙ is);
   }

@@ -21,6 +21,7 @@ module _ {R A : Type 0} (rack : racks.Ghosts R) (area : areas.Ghosts A) (kind : 
     valid = s.valid;
     part = s.part;
     later = (let same = s.blocks.groups.committed in omega (arith, same));
+    opens = (let same = s.blocks.groups.open_group_is in omega (arith, same));
     groups = λ other. s.groups;
     passes = λ is. pass_may_go is;
     others = record { each = λ key own. inl (s.blocks.entries.held key) };

@@ -1,5 +1,5 @@
 -- The blocks and arms of a metaslab that calls leave.
-use Rattle.std.proofs.Common.{◌≡◌, ◌∙◌, ℕ, Option, refl, sym, ap, subst}
+use Rattle.std.proofs.Common.{◌≡◌, ◌∙◌, ℕ, Option, refl, sym, ap, subst, arith}
 use Rattle.draid_entries.specs.Entries.{SameEntries}
 use Rattle.draid_entries.specs.History.{reserved_of}
 use Rattle.draid_entries.specs.declared.entries.Entries.{Entries}
@@ -19,11 +19,11 @@ use Rattle.draid_visits.specs.Steps.{SharesTable}
 
 -- what stays
 table_kept : {R A : Type 0} (old new : Shard R A) → part_of new ≡ part_of old → KeepsBlocks old new → KeepsArms old.slots new.slots → KeepsTable old new
-table_kept old new part keeps arms = record { part = part; entries = keeps.entries; committed = keeps.groups.committed; slots = arms }
+table_kept old new part keeps arms = record { part = part; entries = keeps.entries; committed = keeps.groups.committed; opens = (let same = keeps.groups.open_group_is in omega (arith, same)); slots = arms }
 
 -- another loan
 table_loan : {R A : Type 0} (shard : Shard R A) (kept : Option KeptLoan) → KeepsTable shard (record shard { kept = kept })
-table_loan shard kept = record { part = refl; entries = same_entries shard.entries; committed = refl; slots = same_arms shard.slots }
+table_loan shard kept = record { part = refl; entries = same_entries shard.entries; committed = refl; opens = omega arith; slots = same_arms shard.slots }
 
 closing_loan : {R A : Type 0} (old new : Shard R A) → new ≡ record old { kept = new.kept } → new.closing ≡ old.closing
 closing_loan {R} {A} old new only = ap (λ (z : Shard R A). z.closing) only
@@ -42,6 +42,7 @@ table_then a b c one two = record {
   part = two.part ∙ one.part;
   entries = entries_then a.entries b.entries c.entries one.entries two.entries;
   committed = two.committed ∙ one.committed;
+  opens = (let first = one.opens in let second = two.opens in omega (arith, first, second));
   slots = arms_then a.slots b.slots c.slots one.slots two.slots;
 }
 
@@ -51,6 +52,7 @@ shares_table old new closing table = record {
   entries = table.entries;
   committed = table.committed;
   closing = closing;
+  opens = table.opens;
   slots = shares_kept old.slots new.slots table.slots;
   leaves = λ leaf is. leaf_kept old.slots new.slots leaf table.slots is;
 }
@@ -61,6 +63,7 @@ shares_arms old new part keeps arms leaves = record {
   entries = keeps.entries;
   committed = keeps.groups.committed;
   closing = keeps.groups.closing;
+  opens = (let same = keeps.groups.open_group_is in omega (arith, same));
   slots = arms;
   leaves = leaves;
 }
@@ -71,7 +74,7 @@ shares_by old new part keeps groups = shares_arms old new part keeps groups.arms
 
 -- nothing changed
 pub shares_same : {R A : Type 0} (shard : Shard R A) → SharesTable shard shard
-shares_same shard = shares_table shard shard refl (record { part = refl; entries = same_entries shard.entries; committed = refl; slots = same_arms shard.slots })
+shares_same shard = shares_table shard shard refl (record { part = refl; entries = same_entries shard.entries; committed = refl; opens = omega arith; slots = same_arms shard.slots })
 
 -- a stripe was lent, solved and landed
 pub table_landed : {R A : Type 0} (old lent solved new : Shard R A) → part_of lent ≡ part_of old → KeepsBlocks old lent → KeepsArms old.slots lent.slots → solved ≡ record lent { kept = solved.kept } → part_of new ≡ part_of solved

@@ -18,6 +18,7 @@ module _ {R A : Type 0} (rack : racks.Ghosts R) (area : areas.Ghosts A) where
     valid = u.valid;
     part = u.table.part;
     later = (let same = u.table.committed in omega (arith, same));
+    opens = u.table.opens;
     groups = λ other. u.groups;
     passes = λ is. pass_may_go is;
     others = record { each = λ key own. inl (u.table.entries.held key) };

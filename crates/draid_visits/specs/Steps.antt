@@ -47,6 +47,7 @@ pub record SharesTable {R A : Type 0} (old new : Shard R A) : Type 0 where
   pub entries : SameEntries old.entries new.entries
   pub committed : new.committed ≡ old.committed
   pub closing : new.closing ≡ old.closing
+  pub opens : old.open_group ≤ new.open_group
   pub slots : ShareArms old.slots new.slots
   pub leaves : (leaf : ℕ) → IsLeaf new.slots leaf → IsLeaf old.slots leaf
 

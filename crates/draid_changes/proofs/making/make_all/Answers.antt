@@ -67,7 +67,7 @@ returns-in-Err g c =
     let e = c.in-Err.ensures in
     let own = unused g.R.Rack g.A.Area l.pool c.args.pool.now l.metaslab c.args.leaf shard i.whole i.uber c.requires.unused there in
     record {
-      whole = whole_on g.R.Rack g.A.Area l.metaslab l.pool new shard after i.whole set e.valid (record { part = e.none.none.part; entries = e.none.keeps.entries; committed = e.none.keeps.groups.committed; slots = e.none.slots });
+      whole = whole_on g.R.Rack g.A.Area l.metaslab l.pool new shard after i.whole set e.valid (record { part = e.none.none.part; entries = e.none.keeps.entries; committed = e.none.keeps.groups.committed; opens = (let same = e.none.keeps.groups.open_group_is in omega (arith, same)); slots = e.none.slots });
       objects = i.objects;
       uber = i.uber;
       later = areas_on g.A.Area.faults c.args.pool.now l.pool new i.later (areas_set g.R.Rack g.A.Area l.metaslab l.pool new shard after set (records_same g.A.Area.faults shard after e.areas));
@@ -95,7 +95,7 @@ loop-metaslab-preserved g c =
     let e = c.in-Ok.ensures in
     let own = unused g.R.Rack g.A.Area l.pool c.args.pool.now l.metaslab c.args.leaf shard i.whole i.uber c.requires.unused there in
     record {
-      whole = whole_on g.R.Rack g.A.Area l.metaslab l.pool new shard after i.whole set e.valid (record { part = e.none.none.part; entries = e.none.keeps.entries; committed = e.none.keeps.groups.committed; slots = e.none.slots });
+      whole = whole_on g.R.Rack g.A.Area l.metaslab l.pool new shard after i.whole set e.valid (record { part = e.none.none.part; entries = e.none.keeps.entries; committed = e.none.keeps.groups.committed; opens = (let same = e.none.keeps.groups.open_group_is in omega (arith, same)); slots = e.none.slots });
       carries = λ x is. phase_more g.R.Rack g.A.Area (λ g p. arms.Makes g p c.args.leaf) (λ g p. arms.MakeStops g p) l.metaslab l.pool new shard after x (i.carries x is) set
           (make_turns g.R.Rack g.A.Area c.args.leaf (g.R.Rack.shape shard.rack).bytes (metaslab_sectors shard.geometry) shard after
           (record { valid = e.valid; areas = e.areas; none = e.none; later = e.later; reserve = e.reserve }) own e.told);

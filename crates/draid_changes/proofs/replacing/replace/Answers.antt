@@ -195,7 +195,7 @@ returns-in-Ok-make_all g c =
           let e = c.set_next_leaf.ensures in
           let leaf = c.next_leaf-leaf.result in
           let was = ap next_leaf_of (c.in-Ok-make_all.ensures.uber ∙ c.in-Ok.ensures.uber) ∙ sym c.next_leaf-leaf.ensures in
-          let set : SetsLeaf g.A.Area made.uber u (leaf + 1) = record { valid = e.valid; above = omega (arith, was); next_is = e.leaf; areas_is = e.areas; kept = e.kept; layout = e.layout; version = e.version; point = e.point } in
+          let set : SetsLeaf g.A.Area made.uber u (leaf + 1) = record { valid = e.valid; above = omega (arith, was); next_is = e.leaf; areas_is = e.areas; kept = e.kept; layout = e.layout; version = e.version; point = e.point; changed = e.changed } in
           let mid : Pool g.row.R.Denot g.row.A.Denot = record made { uber = u } in
           let new : Pool g.row.R.Denot g.row.A.Denot = record made { uber = u; metaslabs = record { shards = c.attach_all.new.shards } } in
           attached_whole g.R.Rack g.A.Area c.args.slot kind.Leaf leaf mid new (numbered_whole g.R.Rack g.A.Area made u (leaf + 1) set c.in-Ok-make_all.ensures.whole) c.attach_all.ensures.attaches
@@ -220,7 +220,7 @@ returns-in-Ok-make_all g c =
           let e = c.set_next_leaf.ensures in
           let leaf = c.next_leaf-leaf.result in
           let was = ap next_leaf_of (c.in-Ok-make_all.ensures.uber ∙ c.in-Ok.ensures.uber) ∙ sym c.next_leaf-leaf.ensures in
-          let set : SetsLeaf g.A.Area made.uber u (leaf + 1) = record { valid = e.valid; above = omega (arith, was); next_is = e.leaf; areas_is = e.areas; kept = e.kept; layout = e.layout; version = e.version; point = e.point } in
+          let set : SetsLeaf g.A.Area made.uber u (leaf + 1) = record { valid = e.valid; above = omega (arith, was); next_is = e.leaf; areas_is = e.areas; kept = e.kept; layout = e.layout; version = e.version; point = e.point; changed = e.changed } in
           let new : Pool g.row.R.Denot g.row.A.Denot = record made { uber = u; metaslabs = record { shards = c.attach_all.new.shards } } in
           let first = c.index.result.now in
           let at = first_borrowed g.R.Rack g.A.Area mid first c.in_default.ensures.whole c.index.ensures in

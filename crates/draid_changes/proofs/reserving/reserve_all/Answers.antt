@@ -61,7 +61,7 @@ returns-in-Err g c =
     let e = c.in-Err.ensures in
     record {
       whole = whole_on g.R.Rack g.A.Area l.metaslab l.pool new shard after i.whole set e.valid
-          (record { part = e.none.part; entries = e.keeps.entries; committed = e.keeps.groups.committed; slots = arms_kept shard.slots after.slots e.arms });
+          (record { part = e.none.part; entries = e.keeps.entries; committed = e.keeps.groups.committed; opens = (let same = e.keeps.groups.open_group_is in omega (arith, same)); slots = arms_kept shard.slots after.slots e.arms });
       objects = i.objects;
       uber = i.uber;
       passes = passes_set g.R.Rack g.A.Area l.metaslab c.args.pool.now l.pool new shard after i.passes set e.pass;
@@ -90,7 +90,7 @@ loop-metaslab-preserved g c =
     let reserved = e.reserved in
     record {
       whole = whole_on g.R.Rack g.A.Area l.metaslab l.pool new shard after i.whole set e.valid
-          (record { part = e.none.part; entries = e.keeps.entries; committed = e.keeps.groups.committed; slots = arms_kept shard.slots after.slots e.arms });
+          (record { part = e.none.part; entries = e.keeps.entries; committed = e.keeps.groups.committed; opens = (let same = e.keeps.groups.open_group_is in omega (arith, same)); slots = arms_kept shard.slots after.slots e.arms });
       carries = λ x is. phase_more g.R.Rack g.A.Area (λ g p. arms.Reserves g p (events_at c.args.need)) (λ g p. arms.ReserveStops g p (events_at c.args.need)) l.metaslab l.pool new shard after x (i.carries x is) set
           (reserve_turns g.R.Rack g.A.Area (events_at c.args.need) c.events_in-events.result shard after (asked g.R.Rack g.A.Area c.args.need shard c.events_in-events.result c.events_in-events.ensures) (record { valid = e.valid; none = e.none; kit = e.kit; limit = e.limit }) e.answer e.reserved);
       reserves = changed_more (Reserves c.args.need) l.metaslab c.args.pool.now.metaslabs.shards.items l.pool.metaslabs.shards.items shard after i.reserves there

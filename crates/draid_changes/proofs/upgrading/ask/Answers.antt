@@ -16,7 +16,7 @@ returns g c =
     let asks : AsksPool g.R.Rack g.A.Area old new
     = record {
       metaslabs = c.ask_all.ensures.upgrades;
-      uber = record { valid = e.valid; version = e.version; areas_is = e.areas; kept = e.kept; layout = e.layout; next_leaf = e.leaf; point = e.point };
+      uber = record { valid = e.valid; version = e.version; areas_is = e.areas; kept = e.kept; layout = e.layout; next_leaf = e.leaf; point = e.point; changed = e.changed };
       geometry = refl;
       objects = refl;
       seq = refl;
