@@ -1,5 +1,5 @@
 -- What a governor's holds leave of a whole pool's metaslabs, whatever state of it stood.
-use Rattle.std.proofs.Common.{◌≡◌, ◌<◌, ◌+◌, ◌∙◌, ℕ, zero, suc, Bool, true, Option, Some, Ok, Err, refl, sym, ap, subst, if◌then◌else◌, eq-eqb, ne_eqb}
+use Rattle.std.proofs.Common.{◌≡◌, ◌<◌, ◌+◌, ◌∙◌, ℕ, zero, suc, Bool, true, Option, Some, Ok, Err, refl, sym, ap, subst, if◌then◌else◌, eq-eqb, ne_eqb, arith}
 use mathlib.Core.Logic.{dite}
 use native.Mathlib.Decide.{ℕ_discrete}
 use Rattle.std.specs.Prelude.{Result, slice_get}
@@ -51,7 +51,7 @@ pub record IsQuiet (old new : machine.State) : Type 0 where
   pub switches : KeepsSwitches old new
 
 pub quiet_self : (w : machine.State) → IsQuiet w w
-quiet_self w = record { keeps = record { held = refl; committed = refl; images = λ image is. is; leaves = λ kept next below. below; alike = λ shared is. is }; switches = switches_self w }
+quiet_self w = record { keeps = record { held = refl; committed = refl; images = λ image is. is; leaves = λ kept next below. below; alike = λ shared is. is; opens = omega arith }; switches = switches_self w }
 
 pub good_quiet : (z w : State) (shared : Shared) (m : ℕ) (y v : Metaslab) → IsQuiet y.world v.world → IsGood z w shared m y → IsGood z w shared m v
 good_quiet z w shared m y v q good = record {

@@ -23,6 +23,7 @@ module _ {R A : Type 0} (rack : racks.Ghosts R) (area : areas.Ghosts A) where
     valid = d.valid;
     part = d.part;
     later = d.later;
+    opens = d.opens;
     groups = λ mine. d.groups (inside groups_number mine);
     passes = λ mine. d.passes (inside _ mine);
     own = keeps_some owns some b.committed a.entries b.entries inside d.own;

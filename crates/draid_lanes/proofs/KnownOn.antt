@@ -59,6 +59,13 @@ module _ {R A : Type 0} (rack : racks.Ghosts R) (area : areas.Ghosts A) (owns : 
         let c = goes.later in
         omega (arith, a, b, c)
 
+    opens : was.0.world.open_group ≤ g.reached.world.open_group
+    opens =
+        let a = was.2.stands.is_in.open_group_is in
+        let b = g.is.stands.is_in.open_group_is in
+        let c = goes.opens in
+        omega (arith, a, b, c)
+
     each_on : (k : ℕ) (c : Shard R A) → new k ≡ Some c → (y : Metaslab) × (slice_get (slice_set x.metaslabs m g.reached) k ≡ Some y) × IsMetaslab rack area (part_in x k) (turn m g.now knows.pieces k) c y
     each_on k c at = dite (ℕ_discrete k m)
         (λ same.
@@ -107,7 +114,7 @@ module _ {R A : Type 0} (rack : racks.Ghosts R) (area : areas.Ghosts A) (owns : 
       pieces = turn m g.now knows.pieces;
       but_it = record {
         each = each_on;
-        holds = own_drifts owns x m was.0 g.reached knows.pieces g.now was.1 later drops (all_long rack area (part_in x m) (knows.pieces m) shard was.0 was.2) g.same knows.but_it.holds;
+        holds = own_drifts owns x m was.0 g.reached knows.pieces g.now was.1 later opens drops (all_long rack area (part_in x m) (knows.pieces m) shard was.0 was.2) g.same knows.but_it.holds;
         objects = λ q own. points_at_on last new (table q) (write_of x.store.changes q) (λ t w t_is w_is pt. pointer_on q t w own (pt.object_is ∙ write_object x.store.changes q w w_is) pt) (knows.but_it.objects q own);
         seq = knows.but_it.seq;
         floor = knows.but_it.floor;

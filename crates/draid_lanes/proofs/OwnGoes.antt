@@ -25,16 +25,17 @@ use Rattle.draid_lanes.proofs.Drifted.{state_some}
 -- ---- one metaslab
 
 module _ {R A : Type 0} (rack : racks.Ghosts R) (area : areas.Ghosts A) (owns : ℕ → Bool) where
-  -- What it has of a thread's own objects is as it was, but that blocks may be gone that were freed up to the committed group. Whatever it stood for, it stands for something behind it, where the groups aren't the thread's own.
+  -- What it has of a thread's own objects is as it was, but that blocks may be gone that were freed up to the committed group. No group of it fell. Whatever it stood for, it stands for something behind it, where the groups aren't the thread's own.
   pub record OwnGoes (x y : Shard R A) : Type 0 where
     pub valid : Valid rack x → Valid rack y
     pub part : part_of y ≡ part_of x
     pub later : x.committed ≤ y.committed
+    pub opens : x.open_group ≤ y.open_group
     pub own : KeepsOf owns y.committed x.entries y.entries
     pub state : owns groups_number ≡ false → StateStep rack area owns x y
 
   own_same : (x : Shard R A) → OwnGoes x x
-  own_same x = record { valid = λ valid. valid; part = refl; later = omega arith; own = keeps_self owns x.committed x.entries; state = λ none. state_self rack area owns x }
+  own_same x = record { valid = λ valid. valid; part = refl; later = omega arith; opens = omega arith; own = keeps_self owns x.committed x.entries; state = λ none. state_self rack area owns x }
 
   pub own_still : (x y : Shard R A) → y ≡ x → OwnGoes x y
   own_still x y same = subst (OwnGoes x) (sym same) (own_same x)
@@ -44,6 +45,7 @@ module _ {R A : Type 0} (rack : racks.Ghosts R) (area : areas.Ghosts A) (owns : 
     valid = λ valid. b.valid (a.valid valid);
     part = b.part ∙ a.part;
     later = (let p = a.later in let q = b.later in omega (arith, p, q));
+    opens = (let p = a.opens in let q = b.opens in omega (arith, p, q));
     own = keeps_then owns y.committed z.committed x.entries y.entries z.entries b.later a.own b.own;
     state = λ none. state_then rack area owns y.committed x y z a.own (a.state none) (b.state none);
   }
@@ -54,6 +56,7 @@ module _ {R A : Type 0} (rack : racks.Ghosts R) (area : areas.Ghosts A) (owns : 
     valid = λ valid. d.valid;
     part = d.part;
     later = d.later;
+    opens = d.opens;
     own = keeps_some mine owns y.committed x.entries y.entries inside d.own;
     state = λ none. state_some rack area mine owns x y inside d.state;
   }
@@ -64,6 +67,7 @@ module _ {R A : Type 0} (rack : racks.Ghosts R) (area : areas.Ghosts A) (owns : 
     valid = λ valid. k.valid;
     part = k.part;
     later = k.later;
+    opens = k.opens;
     own = keeps_some (is_other concerned) owns y.committed x.entries y.entries foreign k.others;
     state = λ none. state_some rack area (is_other concerned) owns x y foreign k.state;
   }
@@ -74,6 +78,7 @@ module _ {R A : Type 0} (rack : racks.Ghosts R) (area : areas.Ghosts A) (owns : 
     valid = λ valid. c.valid;
     part = c.table.part;
     later = (let same = c.table.committed in omega (arith, same));
+    opens = c.table.opens;
     own = record { each = λ key mine. inl (c.table.entries.held key) };
     state = λ none part pieces u is. turns_go rack area owns part pieces u y _ (c.closes part pieces u is) (λ mine. absurd (true≢false (sym mine ∙ none)));
   }
@@ -83,6 +88,7 @@ module _ {R A : Type 0} (rack : racks.Ghosts R) (area : areas.Ghosts A) (owns : 
     valid = λ valid. s.valid;
     part = s.table.part;
     later = (let same = s.table.committed in omega (arith, same));
+    opens = s.table.opens;
     own = record { each = λ key mine. inl (s.table.entries.held key) };
     state = λ none part pieces u is. turns_go rack area owns part pieces u y _ (s.seals part pieces u is) (λ mine. absurd (true≢false (sym mine ∙ none)));
   }
@@ -92,6 +98,7 @@ module _ {R A : Type 0} (rack : racks.Ghosts R) (area : areas.Ghosts A) (owns : 
     valid = λ valid. c.valid;
     part = c.does.part;
     later = later;
+    opens = (let same = c.commits.open_group_is in omega (arith, same));
     own = drops_keeps owns y.committed x.entries y.entries (subst (λ g. DropsFreed g x.entries y.entries) (sym c.commits.committed) c.commits.entries);
     state = λ none part pieces u is. turns_go rack area owns part pieces u y _ (commit_turns rack area part pieces x y group u is c) (λ mine. absurd (true≢false (sym mine ∙ none)));
   }

@@ -88,6 +88,7 @@ module _ {R A G W : Type 0} (rack : racks.Ghosts R) (area : areas.Ghosts A) (x z
       kept = g.uber.kept;
       next_leaf = g.uber.next_leaf;
       point = g.uber.point;
+      late = g.uber.late;
       count = g.uber.count;
       stands = record { pending = g.uber.stands.pending; are = g.uber.stands.are; stands = g.uber.stands.stands };
     };

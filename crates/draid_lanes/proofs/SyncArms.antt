@@ -50,22 +50,23 @@ module _ {R A : Type 0} where
 
 -- ---- the uberblock
 
--- it has the same number of the next leaf, and the same layout but for its version
+-- it has the same number of the next leaf, the same layout but for its version, and the same checkpoint
 pub record SameLayout {A : Type 0} (u v : Uber A) : Type 0 where
   pub next_leaf : ubers.next_leaf_of v ≡ ubers.next_leaf_of u
   pub layout : (version : ℕ) → ubers.layout_in (ubers.layout_of v) version ≡ ubers.layout_in (ubers.layout_of u) version
+  pub point : ubers.point_of v ≡ ubers.point_of u
 
 module _ {A : Type 0} where
   pub layout_still : (u v : Uber A) → v ≡ u → SameLayout u v
-  layout_still u v same = record { next_leaf = ap ubers.next_leaf_of same; layout = λ n. ap (λ w. ubers.layout_in (ubers.layout_of w) n) same }
+  layout_still u v same = record { next_leaf = ap ubers.next_leaf_of same; layout = λ n. ap (λ w. ubers.layout_in (ubers.layout_of w) n) same; point = ap ubers.point_of same }
 
   pub layout_then : (u w v : Uber A) → SameLayout u w → SameLayout w v → SameLayout u v
-  layout_then u w v x y = record { next_leaf = y.next_leaf ∙ x.next_leaf; layout = λ n. y.layout n ∙ x.layout n }
+  layout_then u w v x y = record { next_leaf = y.next_leaf ∙ x.next_leaf; layout = λ n. y.layout n ∙ x.layout n; point = y.point ∙ x.point }
 
   layout_named : (area : areas.Ghosts A) (group : ℕ) (u v : Uber A) (result : Result Unit SyncFault) → UberNames area group u result v → SameLayout u v
-  layout_named area group u v (Ok done) names = record { next_leaf = names.0.next_leaf; layout = λ n. ap (λ l. ubers.layout_in l n) names.0.layout }
-  layout_named area group u v (Err sync.Shelf) names = record { next_leaf = names.0.next_leaf; layout = λ n. ap (λ l. ubers.layout_in l n) names.0.layout }
-  layout_named area group u v (Err sync.NoMemory) names = record { next_leaf = names.0.next_leaf; layout = λ n. ap (λ l. ubers.layout_in l n) names.0.layout }
+  layout_named area group u v (Ok done) names = record { next_leaf = names.0.next_leaf; layout = λ n. ap (λ l. ubers.layout_in l n) names.0.layout; point = names.0.point }
+  layout_named area group u v (Err sync.Shelf) names = record { next_leaf = names.0.next_leaf; layout = λ n. ap (λ l. ubers.layout_in l n) names.0.layout; point = names.0.point }
+  layout_named area group u v (Err sync.NoMemory) names = record { next_leaf = names.0.next_leaf; layout = λ n. ap (λ l. ubers.layout_in l n) names.0.layout; point = names.0.point }
   layout_named area group u v (Err sync.Worn) names = absurd names
   layout_named area group u v (Err sync.Last) names = absurd names
 

@@ -1,5 +1,5 @@
 -- What a lane's job is said to have done, and to have shown of the objects, in the words of a session.
-use Rattle.std.specs.Prelude.{◌≡◌, ◌++◌, ℕ, Bool, true, List, Option, All, if◌then◌else◌}
+use Rattle.std.specs.Prelude.{◌≡◌, ◌++◌, ℕ, Bool, true, List, Option, All, if◌then◌else◌, None}
 use Rattle.draid_names.specs.declared.pointer.Pointer.{Pointer}
 use Rattle.draid_rack.specs.declared.Rack as racks
 use Rattle.draid_area.specs.declared.Area as areas
@@ -10,21 +10,22 @@ use Rattle.draid_session.specs.State.{State, Store}
 use Rattle.draid_pool.specs.Knows.{KnowsTable}
 use Rattle.draid_lanes.specs.Lanes.{table_of}
 use Rattle.draid_lanes.specs.Locks.{owned_by}
-use Rattle.draid_lanes.specs.Traces.{LaneTold, SawBytes}
+use Rattle.draid_lanes.specs.Traces.{SawBytes, ToldUnpointed}
 use Rattle.draid_lanes.specs.declared.lane.Lane.{Lane}
+use Rattle.draid_objects.specs.Marks.{check_by}
 
--- what befell a thread's own objects since, and nothing befell others or a checkpoint
+-- what befell a thread's own objects since, and nothing befell others, or a checkpoint where none stands
 pub record Grows (owns : ℕ → Bool) (old new : Store) : Type 0 where
   pub since : List Change
   pub added : new.changes ≡ since ++ old.changes
   pub own : All (λ c. owns (object_of c) ≡ true) since
-  pub marks : new.marks ≡ old.marks
+  pub marks : check_by old.marks ≡ None → new.marks ≡ old.marks
 
 module _ {R A G W J : Type 0} (rack : racks.Ghosts R) (area : areas.Ghosts A) (says : J → J → Store → List Hold → Store → Type 0) (rests : J → Type 0) where
-  -- What each job does is said so, from whatever its lane knew; where that rests on the bytes of all blocks, if these had them in all that the lane saw.
+  -- What each job does is said so, from whatever its lane knew where no checkpoint stands; where that rests on the bytes of all blocks, if these had them in all that the lane saw.
   abbrev pub JobsTell : (relates : J → Lane R A G W → J → Lane R A G W → Type 0) → State → Type 0
   JobsTell relates x = (job : J) (lane : Lane R A G W) (done : J) (next : Lane R A G W) → relates job lane done next
-      → LaneTold rack area x (λ old holds new. ((rests job → SawBytes rack area x next) → says job done old holds new) × Grows (owned_by lane.metaslabs.passes.items) old new) lane next
+      → ToldUnpointed rack area x (λ old holds new. ((rests job → SawBytes rack area x next) → says job done old holds new) × Grows (owned_by lane.metaslabs.passes.items) old new) lane next
 
 -- ---- a pool of no known state
 

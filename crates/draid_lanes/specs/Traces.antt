@@ -31,6 +31,7 @@ use Rattle.draid_lanes.specs.Lanes.{table_of}
 use Rattle.draid_lanes.specs.Locks.{last_in, left_in, owned_by}
 use Rattle.draid_lanes.specs.declared.lane.Lane.{Lane}
 use Rattle.draid_lanes.specs.declared.uber.UberCell.{UberCell}
+use Rattle.draid_objects.specs.Marks.{check_by}
 
 -- ---- turns
 
@@ -158,3 +159,7 @@ module _ {R A : Type 0} (rack : racks.Ghosts R) (area : areas.Ghosts A) (x : Sta
     -- so from each state that it may have known
     abbrev pub LaneTold : (says : Store → List Hold → Store → Type 0) → Lane R A G W → Lane R A G W → Type 0
     LaneTold says old new = (y : State) → StandsAt old y → LeadsLane (says y.store) old new
+
+    -- so from each in which no checkpoint stands
+    abbrev pub ToldUnpointed : (says : Store → List Hold → Store → Type 0) → Lane R A G W → Lane R A G W → Type 0
+    ToldUnpointed says old new = (y : State) → StandsAt old y → check_by y.store.marks ≡ None → LeadsLane (says y.store) old new

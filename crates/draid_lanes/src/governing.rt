@@ -1,6 +1,6 @@
 //! What a lane does while it holds the uberblock: it has the groups of all metaslabs then, and holds these one after another.
 ghost use Rattle.std.specs.Prelude.{◌≡◌, ◌≤◌};
-ghost use Rattle.draid_uber.specs.Uber.{count_of};
+ghost use Rattle.draid_uber.specs.Uber.{count_of, point_of};
 ghost use Rattle.draid_lanes.specs.Governing.{Governed, GovernedIn, KeepsLane, KeepsLayout, MayGovern, lane_last};
 ghost use Rattle.draid_lanes.specs.Locks.{owned_by};
 ghost use Rattle.draid_lanes.specs.Ubers.{IsLane, IsUberOf};
@@ -19,7 +19,7 @@ use std::sync::Wait;
 /// What is done to a lane's metaslabs by who holds the uberblock.
 pub trait Governs<R: Rack, A: Area, G: Gate, W: Wait> {
     ghost use Rattle.std.specs.Prelude.{◌≡◌, ◌≤◌};
-    ghost use Rattle.draid_uber.specs.Uber.{count_of};
+    ghost use Rattle.draid_uber.specs.Uber.{count_of, point_of};
     ghost use Rattle.draid_uber.specs.declared.uber.Uber.{Uber};
     ghost use Rattle.draid_lanes.specs.Governing.{IsGovernor, KeepsLayout, KeepsSome, lane_last};
     ghost use Rattle.draid_lanes.specs.Locks.{owned_by};
@@ -41,6 +41,7 @@ pub trait Governs<R: Rack, A: Area, G: Gate, W: Wait> {
         ensures layout { KeepsLayout (lane_last metaslabs.old) (lane_last metaslabs.new) }
         ensures keeps { KeepsSome R.Rack (owned_by metaslabs.old.passes.items) (lane_last metaslabs.old) (lane_last metaslabs.new) }
         ensures later { count_of A.faults uber.old ≤ count_of A.faults uber.new }
+        ensures point { point_of uber.new ≡ point_of uber.old }
         ensures related { relates self.old metaslabs.old uber.old self.new metaslabs.new uber.new };
 }
 
@@ -59,6 +60,7 @@ fn govern_under<'a, R: Rack, A: Area, G: Gate, W: Wait, O: Governs<R, A, G, W>>(
     ensures lane { IsLane R.Rack metaslabs.new.turns.now metaslabs.new.passes.items }
     ensures uber { IsUberOf R.Rack A.Area metaslabs.new.turns.now uber.new groups.new }
     ensures later { count_of A.faults uber.old ≤ count_of A.faults uber.new }
+    ensures point { point_of uber.new ≡ point_of uber.old }
     ensures layout { KeepsLayout (lane_last metaslabs.old) (lane_last metaslabs.new) }
     ensures whole { KeepsLane R.Rack metaslabs.old metaslabs.new }
     ensures governed { Governed R.Rack A.Area O.relates metaslabs.old op.old uber.old groups.old.items metaslabs.new op.new uber.new groups.new.items }

@@ -77,6 +77,7 @@ module _ {J : Type 0} (x : State) (choices : Choices) (says : J → J → Store 
     pub section_is : Section x choices (map commands jobs) (map replies done) stood.reached
     section_is = record {
       lanes = map lane_of stood.lanes;
+      unpointed = stood.unpointed;
       apart = apart;
       ran = lanes_ran stood.lanes jobs done tells stood.many stood.done_many stood.each;
       together = subst (λ (hs : List (List Hold)). Together hs x stood.reached) (sym (holds_same stood.lanes)) stood.together;

@@ -1,6 +1,6 @@
 -- A pool that is put together again of what lanes left is whole.
 use Rattle.std.proofs.Common.{◌≡◌, ◌<◌, ◌≤◌, ◌+◌, ◌∙◌, ◌⊎◌, inl, inr, arith, ℕ, zero, suc, Bool, true, List, [], ◌∷◌, Option, Some, None, All, length, sym, ap, subst}
-use Rattle.std.specs.Prelude.{slice_get}
+use Rattle.std.specs.Prelude.{slice_get, nat_eq}
 use Rattle.std.specs.declared.vec.Vec.{Vec}
 use Rattle.std.specs.declared.alloc.Global.{Global}
 use Rattle.std.proofs.lemmas.List.Elements.{All-head, All-tail}
@@ -46,6 +46,10 @@ use Rattle.draid_section.proofs.Beginning.{first_is, some_locks}
 use Rattle.draid_lanes.proofs.Drifted.{drifts_found}
 use Rattle.draid_lanes.proofs.Held.{has_place, owned_at}
 use Rattle.draid_lanes.proofs.SyncUnder.{groups_in, owned_all}
+use Rattle.draid_checkpoint.specs.Check.{Point}
+use Rattle.draid_pool.proofs.Wholes.{fits_none}
+use Rattle.draid_machine.proofs.Small.{none_some}
+use Rattle.std.specs.HashMap.{get}
 
 -- ---- the passes of one metaslab
 
@@ -317,6 +321,13 @@ module _ {R A : Type 0} (rack : racks.Ghosts R) (area : areas.Ghosts A) (pool : 
         subst (λ (u : Uber A). ubers.layout_in (ubers.layout_of u) new.geometry.props.version ≡ new.geometry) (sym g.uber_is)
         (subst (λ (x : Geometry). ubers.layout_in (ubers.layout_of uber) x.props.version ≡ x) same (e.governs.layout 0 lock.0 lock.1))
 
+    -- it has no checkpoint, as before
+    point_is : ubers.point_of new.uber ≡ ubers.point_of pool.uber
+    point_is = ap (λ (u : Uber A). ubers.point_of u) g.uber_is ∙ e.point
+
+    none_is : (ubers.point_of new.uber).group ≡ None
+    none_is = ap (λ (p : Point). p.group) point_is ∙ e.unpointed
+
     many_are : length new.metaslabs.shards.items ≡ new.geometry.props.metaslabs
     many_are =
         let are = ap (λ (l : List (Shard R A)). length l) g.metaslabs in
@@ -336,4 +347,6 @@ module _ {R A : Type 0} (rack : racks.Ghosts R) (area : areas.Ghosts A) (pool : 
       objects = λ object pointer at. pointer_is object pointer (g.objects object pointer at);
       floor = floor_is g.floor;
       low = low_is g.floor;
+      point = fits_none (ubers.point_of new.uber) (get nat_eq new.own.objects) new.own.seq none_is (ap (λ (p : Point). p.drops) point_is ∙ e.whole.point.none e.unpointed);
+      behind = λ own m shard is at. absurd (none_some (ubers.point_of new.uber).group own none_is is);
     }

@@ -45,7 +45,7 @@ use Rattle.draid_tables.specs.Owns.{AllWithin, AreDealtOut, HaveTableRoom, Takes
 use Rattle.draid_section.specs.Running.{BeginsAt, IsLeftWhole, JobRan, KeepLanes}
 use Rattle.draid_tables.specs.Lists.{AreLaneLists}
 use Rattle.draid_section.specs.Section.{BeginsLane, EndWithGroups, GovernsFirst, MayRunAll, MayRunLocked, MayRunUnder, RunsLocked}
-use Rattle.draid_section.specs.Turning.{AreOfLanes, IsUberLock}
+use Rattle.draid_section.specs.Turning.{AreOfLanes, IsUberLock, UberHold}
 use Rattle.draid_section.specs.Whole.{AreLaneNumbers, IsGathered, IsOfLane, IsOfPool, LaneEnded, LanesEnded, pointer_in}
 use Rattle.draid_section.specs.declared.seats.Shares.{Shares}
 use Rattle.draid_section.proofs.Beginning.{HasList, held_dealt, lane_begins, lasts, shared_by, some_locks, uber_begins}
@@ -56,6 +56,8 @@ use Rattle.draid_section.proofs.Kept.{dealt_front, dealt_groups, dealt_many, gro
 use Rattle.draid_section.proofs.LanePasses.{get_before, get_last}
 use Rattle.draid_section.proofs.Ran.{all_each}
 use Rattle.draid_section.proofs.Sitting.{at_push}
+use Rattle.draid_uber.specs.Uber.{point_of}
+use Rattle.draid_turn.specs.History.{Steps, left_by}
 
 -- ---- lists of numbers
 
@@ -160,6 +162,11 @@ at_if : (b : Bool) (o : Option Pointer) (p : Pointer) → (if b then o else None
 at_if true o p is = (is, refl)
 at_if false o p is = absurd (cc)
 
+-- along a history of the uberblock its checkpoint is as it was
+pub points_by : {R A : Type 0} (rack : racks.Ghosts R) (area : areas.Ghosts A) (first : UberCell R A) (log : List (Past (UberCell R A))) → Steps (UberHold rack area) first log → point_of (left_by first log).uber ≡ point_of first.uber
+points_by rack area first [] s = refl
+points_by rack area first (past ∷ log) s = points_by rack area past.left log s.1 ∙ s.0.point
+
 module _ {R A G W J : Type 0} (rack : racks.Ghosts R) (area : areas.Ghosts A) (needs : J → Lane R A G W → Type 0) (relates : J → Lane R A G W → J → Lane R A G W → Type 0) (pool : Pool R A) (w : IsWhole rack area pool) (lists : List (Vec Span Global)) (al : AreLaneLists lists) (jobs : Vec J Global)
     (may : MayRunAll rack area needs pool lists jobs.items) (keeps : KeepLanes rack area needs relates) (locks : List (Lock (Cell R A))) (firsts : List (Caller (Past (Cell R A)))) (locked : AreLocked pool.metaslabs.shards.items locks firsts) (gl : Vec Span Global) (alone : gl.items ≡ groups_alone)
     (owns : Vec Own Global) (dealt_out : AreDealtOut pool.own lists owns.items) where
@@ -245,7 +252,7 @@ module _ {R A G W J : Type 0} (rack : racks.Ghosts R) (area : areas.Ghosts A) (n
     may_under : MayRunUnder rack area needs pool.geometry locks pool.uber groups old
     may_under lock first made passes rest of i job lane b =
         let list = present lists i (let inside = slice_get_within old.passes.items i lane.metaslabs.passes b.has.held in let many = as_many in omega (arith, inside, many)) in
-        may i job lane (begins_lane lock first made passes rest of i job lane b list.0 list.1)
+        may.each i job lane (begins_lane lock first made passes rest of i job lane b list.0 list.1)
 
   pub may_locked : MayRunLocked rack area needs pool.geometry locks pool.uber every owns jobs
   may_locked dealt rests groups old deals shared owns_are jobs_are = may_under dealt rests groups old deals shared owns_are jobs_are
@@ -317,6 +324,10 @@ module _ {R A G W J : Type 0} (rack : racks.Ghosts R) (area : areas.Ghosts A) (n
       locked = locked;
       groups = ran.groups';
       governs = subst (λ ls. IsUberOf rack area ls uber' ran.groups') ran.under.made.turns_are ran.under.over.back.is;
+      unpointed = may.unpointed;
+      point = ap point_of ran.under.over.back.uber_is
+          ∙ (ap (λ (c : UberCell R A). point_of c.uber) ran.under.over.back.closes.stood.is
+          ∙ (points_by rack area ran.under.lock.first ran.under.over.back.closes.log ran.under.over.back.closes.stood.steps ∙ ap point_of ran.under.made.uber_is));
       lists = ran.new.passes.items ++ ran.groups' ∷ [];
       unlocked = ran.unlocked;
       groups_in = (length ran.new.passes.items, get_last ran.new.passes.items ran.groups');

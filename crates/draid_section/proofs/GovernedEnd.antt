@@ -1,6 +1,6 @@
 -- What who holds the uberblock knew of all metaslabs is so of those that come back in the end.
 use Rattle.std.proofs.Common.{◌≡◌, ◌∙◌, arith, ℕ, Bool, true, List, Option, Some, None, length, ap, sym, subst, refl}
-use Rattle.std.specs.Prelude.{option_map, slice_get}
+use Rattle.std.specs.Prelude.{option_map, slice_get, ◌↔◌, ◌<◌}
 use Rattle.std.proofs.lemmas.Option.{slice_get_within}
 use Rattle.draid_rack.specs.declared.Rack as racks
 use Rattle.draid_area.specs.declared.Area as areas
@@ -26,7 +26,8 @@ use Rattle.draid_lanes.specs.declared.uber.UberCell.{UberCell}
 use Rattle.draid_section.proofs.Finals.{FinalAt, came_on}
 use Rattle.draid_section.proofs.UberTurns.{with_uber}
 use Rattle.draid_uber.specs.Checks.{AreasStand, told_by}
-use Rattle.draid_uber.specs.Uber.{areas_of}
+use Rattle.draid_uber.specs.Uber.{areas_of, changed_of}
+use Rattle.draid_session.specs.Points.{HasLateMark}
 
 -- a leaf that was offline as another was, is so yet
 offline_kept : (a b c d : Option machine.Arm) → option_map bare c ≡ option_map bare a → option_map bare d ≡ option_map bare b → ((i j : machine.Arm) → a ≡ Some i → b ≡ Some j → i.offline ≡ j.offline) → (i j : machine.Arm) → c ≡ Some i → d ≡ Some j → i.offline ≡ j.offline
@@ -89,6 +90,7 @@ module _ {R A : Type 0} (rack : racks.Ghosts R) (area : areas.Ghosts A) (x : Sta
       kept = g.uber.kept;
       next_leaf = g.uber.next_leaf;
       point = λ group late. g.uber.point group late ∙ ap (λ ms. check_told ms group) (sym marks);
+      late = λ group above. subst (λ ms. HasLateMark group ms ↔ (group < changed_of cell.uber)) (sym marks) (g.uber.late group above);
       count = g.uber.count;
       stands = record {
         pending = g.uber.stands.pending;

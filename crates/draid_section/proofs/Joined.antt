@@ -1,6 +1,6 @@
 -- What several threads' objects are, each by itself, all objects are together.
 use Rattle.std.proofs.Common.{◌≡◌, ◌==◌, ◌≤◌, ◌∙◌, ◌++◌, ◌∷◌, arith, ℕ, zero, suc, Bool, true, false, List, [], Option, Some, None, IsSome, All, cond, refl, sym, ap, subst}
-use Rattle.std.specs.Prelude.{flat_map, slice_get}
+use Rattle.std.specs.Prelude.{flat_map, slice_get, filter}
 use Rattle.std.proofs.lemmas.Bool.{true≢false}
 use Rattle.std.proofs.lemmas.List.Concat.{flat_map-cons}
 use Rattle.std.proofs.lemmas.List.Elements.{All-head, All-tail}
@@ -24,9 +24,11 @@ use Rattle.draid_session.specs.State.{Metaslab, Store}
 use Rattle.draid_pool.specs.Bytes.{HasBytes}
 use Rattle.draid_pool.specs.Metaslabs.{IsMetaslab}
 use Rattle.draid_pool.specs.Objects.{HoldsObjects}
-use Rattle.draid_pool.specs.Threads.{all_of, own_blocks, own_changes, own_store}
+use Rattle.draid_pool.specs.Threads.{all_of, own_blocks, own_changes, own_store, is_own_mark}
 use Rattle.draid_pool.proofs.Owning.{own_is, pieces_on}
-use Rattle.draid_section.proofs.Objectwise.{StoresOne, by_same, floor_on, last_same, stores_by}
+use Rattle.draid_section.proofs.Objectwise.{StoresOne, by_same, floor_on, last_same, one_of, stores_by}
+use Rattle.draid_section.proofs.Markwise.{SameCheck, own_check, own_check_at}
+use Rattle.draid_objects.specs.Marks.{MarksNeverFall, check_at, check_by, mark_group}
 
 -- ---- owners
 
@@ -129,7 +131,7 @@ module _ (owners : List Owner) (changes : List Change) (are : AreOwners owners c
           by true is = absurd (not (are.apart j (are.cover o).place b (are.cover o).owner o at (are.cover o).there is (are.cover o).owned))
           by false is = is
 
-  module _ (geometry : Geometry) (committed : ℕ) (blocks : Blocks) (pieces : ℕ → ℕ → Pieces) (store : Store) (added : store.changes ≡ all_since owners ++ changes) (unmarked : store.marks ≡ [])
+  module _ (geometry : Geometry) (committed : ℕ) (blocks : Blocks) (pieces : ℕ → ℕ → Pieces) (store : Store) (added : store.changes ≡ all_since owners ++ changes) (marks_are : (i : ℕ) (a : Owner) → slice_get owners i ≡ Some a → a.store.marks ≡ store.marks) (falls : MarksNeverFall store.marks) (positive : All (λ m. 1 ≤ mark_group m) store.marks)
       (numbers : (i : ℕ) (a : Owner) → slice_get owners i ≡ Some a → a.store.seq ≤ store.seq) (floors : (i : ℕ) (a : Owner) → slice_get owners i ≡ Some a → a.store.floor ≤ store.floor)
       (each : (i : ℕ) (a : Owner) → slice_get owners i ≡ Some a → HoldsObjects geometry committed (own_store a.owns a.store) (own_blocks (all_of a.owns) blocks) (pieces i)) where
     abbrev held_by : (o : ℕ) → HoldsObjects geometry committed (own_store (are.cover o).owner.owns (are.cover o).owner.store) (own_blocks (all_of (are.cover o).owner.owns) blocks) (pieces (are.cover o).place)
@@ -141,19 +143,20 @@ module _ (owners : List Owner) (changes : List Change) (are : AreOwners owners c
     seen : (o m : ℕ) (k : Key) → k.object ≡ o → blocks m k ≡ seen_by o m k
     seen o m k of = sym (own_is (all_of (are.cover o).owner.owns) blocks m k (ap (are.cover o).owner.owns of ∙ (are.cover o).owned))
 
-    abbrev one : (o : ℕ) → StoresOne sha256 committed (all_since owners ++ changes) blocks o
-    one o = record {
-      some = own_changes (are.cover o).owner.owns (are.cover o).owner.store.changes;
-      held = seen_by o;
-      stores = (held_by o).stores;
-      changed = owner_changes o;
-      same = seen o;
-    }
+    -- the marks of an object's owner
+    marks_of : (o : ℕ) → (are.cover o).owner.store.marks ≡ store.marks
+    marks_of o = marks_are (are.cover o).place (are.cover o).owner (are.cover o).there
+
+    one : (o : ℕ) → StoresOne sha256 committed (all_since owners ++ changes) store.marks blocks o
+    one o =
+        let w = are.cover o in
+        one_of sha256 committed (all_since owners ++ changes) store.marks blocks o (own_changes w.owner.owns w.owner.store.changes) (filter (is_own_mark w.owner.owns) w.owner.store.marks) (seen_by o) (held_by o).stores (owner_changes o) (seen o)
+        (subst (λ ms. SameCheck o (check_by (filter (is_own_mark w.owner.owns) ms)) (check_by store.marks)) (sym (marks_of o)) (own_check w.owner.owns o w.owned store.marks))
+        (λ t. subst (λ ms. SameCheck o (check_at t (filter (is_own_mark w.owner.owns) ms)) (check_at t store.marks)) (sym (marks_of o)) (own_check_at w.owner.owns o w.owned t store.marks))
 
     holds_all : HoldsObjects geometry committed (record store { changes = all_since owners ++ changes }) blocks (joined_pieces owners are.cover pieces)
     holds_all = record {
-      stores = stores_by sha256 committed (all_since owners ++ changes) blocks one;
-      unmarked = unmarked;
+      stores = stores_by sha256 committed (all_since owners ++ changes) store.marks blocks falls one;
       floors = λ o. floor_up (all_since owners ++ changes) blocks o (are.cover o).owner.store.floor store.floor
           (floor_on (own_changes (are.cover o).owner.owns (are.cover o).owner.store.changes) (all_since owners ++ changes) (seen_by o) blocks o (are.cover o).owner.store.floor (owner_changes o) (seen o) ((held_by o).floors o))
           (floors (are.cover o).place (are.cover o).owner (are.cover o).there);
@@ -162,9 +165,10 @@ module _ (owners : List Owner) (changes : List Change) (are : AreOwners owners c
           (let low = (held_by k.object).numbered m k h (sym (seen k.object m k refl) ∙ at) in
           let most = numbers (are.cover k.object).place (are.cover k.object).owner (are.cover k.object).there in
           omega (arith, low, most));
+      positive = positive;
       bytes = λ m k h write at is.
           (let key = write_key (all_since owners ++ changes) k write is in
-          let mine = (held_by k.object).bytes m k h write (sym (seen k.object m k refl) ∙ at) (by_same sha256 committed (all_since owners ++ changes) blocks k.object (one k.object) k refl ∙ is) in
+          let mine = (held_by k.object).bytes m k h write (sym (seen k.object m k refl) ∙ at) (by_same (own_changes (are.cover k.object).owner.owns (are.cover k.object).owner.store.changes) (all_since owners ++ changes) k.object (owner_changes k.object) k refl ∙ is) in
           pieces_on geometry write (pieces (are.cover k.object).place m) (joined_pieces owners are.cover pieces m) (ap (λ (j : Key). pieces (are.cover j.object).place m (key_of write)) key) mine);
     }
 
@@ -174,7 +178,7 @@ module _ (owners : List Owner) (changes : List Change) (are : AreOwners owners c
 
     -- the write that gives an object its bytes
     pub write_joined : (o : ℕ) → write_of (own_changes (are.cover o).owner.owns (are.cover o).owner.store.changes) o ≡ write_of store.changes o
-    write_joined o = last_same sha256 committed (all_since owners ++ changes) blocks o (one o) ∙ ap (λ cs. write_of cs o) (sym added)
+    write_joined o = last_same (own_changes (are.cover o).owner.owns (are.cover o).owner.store.changes) (all_since owners ++ changes) o (owner_changes o) ∙ ap (λ cs. write_of cs o) (sym added)
 
 -- ---- metaslabs
 

@@ -12,6 +12,7 @@ pub mod Kept
 pub mod LanePasses
 pub mod LockTurns
 pub mod Locking
+pub mod Markwise
 pub mod Merging
 pub mod Objectwise
 pub mod Ran

@@ -1,14 +1,18 @@
 -- Blocks store what befell the objects where this is so of each object by itself.
-use Rattle.std.proofs.Common.{◌≡◌, ◌==◌, ◌≤◌, ◌∙◌, ℕ, Bool, true, false, nat_le, List, [], ◌∷◌, Option, Some, None, IsSome, All, find, filter, cond, refl, sym, ap, subst}
+use Rattle.std.proofs.Common.{◌≡◌, ◌==◌, ◌≤◌, ◌∙◌, ℕ, Bool, true, false, nat_le, List, [], ◌∷◌, Option, Some, None, IsSome, All, find, filter, cond, refl, sym, ap, subst, if◌then◌else◌}
 use Rattle.std.proofs.lemmas.List.Elements.{All-cons, All-filter, All-head, All-nil, All-tail, All-weaker}
 use Rattle.draid_machine.specs.declared.names.Key.{Key}
+use Rattle.draid_machine.specs.declared.names.Held.{Held}
+use Rattle.draid_machine.specs.declared.names.Stage.TheVariants.{Live}
 use Rattle.draid_machine.specs.After.{seal_held}
-use Rattle.draid_machine.proofs.Small.{absurd_test, both_true, equal}
-use Rattle.draid_objects.specs.Blocks.{Blocks, SaysOf}
+use Rattle.draid_machine.specs.Names.{is_block}
+use Rattle.draid_machine.proofs.Small.{absurd_test, both_true, equal, none_some}
+use Rattle.draid_objects.specs.Blocks.{Blocks, SaysOf, sealed_at}
 use Rattle.draid_objects.specs.Changes.{Change, Freed, NeverFall, Restored, Write, Wrote, group_of, has_key, kept, key_of, object_of, own, upto, write_by, write_in, write_of}
-use Rattle.draid_objects.specs.Marks.{shown_at}
-use Rattle.draid_objects.specs.Stores.{IsFloor, Stores}
+use Rattle.draid_objects.specs.Marks.{Check, Mark, MarksNeverFall, born_by, born_upto, check_at, check_by, is_dropped, shown_at}
+use Rattle.draid_objects.specs.Stores.{HasCheck, HasOne, IsBlockOf, IsFloor, Stores}
 use Rattle.draid_pool.proofs.Lastly.{write_object}
+use Rattle.draid_section.proofs.Markwise.{SameCheck, Undropped, filters_commute, same_check, same_dropped}
 
 -- ---- one object's changes
 
@@ -21,18 +25,6 @@ found_within p q weaker (x ∷ xs) = by (p x) (q x) refl refl (found_within p q 
     by true true px qx rest = ap (λ b. cond b (Some x) (find p (filter q xs))) px
     by true false px qx rest = absurd_test (q x) (weaker x px) qx
     by false true px qx rest = ap (λ b. cond b (Some x) (find p (filter q xs))) px ∙ rest
-    by false false px qx rest = rest
-
-filters_commute : {A : Type 0} (p q : A → Bool) (xs : List A) → filter p (filter q xs) ≡ filter q (filter p xs)
-filters_commute p q [] = refl
-filters_commute p q (x ∷ xs) = by (p x) (q x) refl refl (filters_commute p q xs)
-  where
-    by : (b c : Bool) → p x ≡ b → q x ≡ c → filter p (filter q xs) ≡ filter q (filter p xs)
-        → filter p (cond c (x ∷ filter q xs) (filter q xs)) ≡ filter q (cond b (x ∷ filter p xs) (filter p xs))
-    by true true px qx rest = ap (λ b. cond b (x ∷ filter p (filter q xs)) (filter p (filter q xs))) px ∙ ap (λ ys. x ∷ ys) rest
-        ∙ sym (ap (λ b. cond b (x ∷ filter q (filter p xs)) (filter q (filter p xs))) qx)
-    by true false px qx rest = rest ∙ sym (ap (λ b. cond b (x ∷ filter q (filter p xs)) (filter q (filter p xs))) qx)
-    by false true px qx rest = ap (λ b. cond b (x ∷ filter p (filter q xs)) (filter p (filter q xs))) px ∙ rest
     by false false px qx rest = rest
 
 all_within : {A : Type 0} (P : A → Type 0) (q : A → Bool) (xs : List A) → All P (filter q xs) → All (λ x. q x ≡ true → P x) xs
@@ -94,42 +86,129 @@ says_on a b o (Some w) same says = record {
   others = λ m k of some. says.others m k of (subst IsSome (same m k of) some);
 }
 
--- some blocks, of which an object has the same, store what befell it
-pub record StoresOne (digest : List ℕ → List ℕ) (committed : ℕ) (changes : List Change) (blocks : Blocks) (object : ℕ) : Type 0 where
-  pub some : List Change
-  pub held : Blocks
-  pub stores : Stores digest committed some [] held
-  pub changed : own object some ≡ own object changes
-  pub same : (m : ℕ) (k : Key) → k.object ≡ object → blocks m k ≡ held m k
+-- The blocks of one object store what befell it, beside a checkpoint that may keep some alone.
+pub record StoresOne (digest : List ℕ → List ℕ) (committed : ℕ) (changes : List Change) (marks : List Mark) (blocks : Blocks) (object : ℕ) : Type 0 where
+  pub falls : NeverFall (own object changes)
+  pub only : (m : ℕ) (k : Key) (h : Held) → k.object ≡ object → blocks m k ≡ Some h → is_block h.stage ≡ true → (write : Write) × (write_by changes k ≡ Some write) × (write.metaslab ≡ m) × IsBlockOf digest write h
+  pub last : (group : ℕ) (write : Write) → committed ≤ group → kept group changes object ≡ Some write → write_by changes (key_of write) ≡ Some write
+  pub live : (m : ℕ) (k : Key) (h : Held) → k.object ≡ object → blocks m k ≡ Some h → h.stage ≡ Live → is_dropped (check_by marks) k ≡ false → IsSome (write_of changes object)
+  pub says : (group : ℕ) → committed ≤ group → SaysOf (shown_at marks group blocks) object (kept group changes object)
+  pub kept_says : (group : ℕ) (check : Check) → committed ≤ group → check_at group marks ≡ Some check → SaysOf (born_upto check.group (sealed_at group blocks)) object (kept check.group changes object)
+  pub kept_last : (group : ℕ) (check : Check) (write : Write) → committed ≤ group → check_at group marks ≡ Some check → kept check.group changes object ≡ Some write → write_by changes (key_of write) ≡ Some write
+  pub one : (group : ℕ) (check : Check) → committed ≤ group → check_at group marks ≡ Some check → HasOne (born_upto check.group (sealed_at group blocks)) object
+  pub drops : (group : ℕ) (check : Check) (k : Key) → committed ≤ group → check_at group marks ≡ Some check → k.object ≡ object → check.dropped k ≡ true → (m : ℕ) × IsSome (born_upto check.group (sealed_at group blocks) m k)
 
-module _ (digest : List ℕ → List ℕ) (committed : ℕ) (changes : List Change) (blocks : Blocks) where
-  module _ (o : ℕ) (s : StoresOne digest committed changes blocks o) where
-    pub by_same : (k : Key) → k.object ≡ o → write_by s.some k ≡ write_by changes k
-    by_same k of = sym (by_one s.some k) ∙ (ap (λ x. write_by x k) (subst (λ p. own p s.some ≡ own p changes) (sym of) s.changed) ∙ by_one changes k)
+-- ---- an object's own changes, and all
 
-    pub last_same : write_of s.some o ≡ write_of changes o
-    last_same = sym (last_one s.some o) ∙ (ap (λ x. write_of x o) s.changed ∙ last_one changes o)
+module _ (some changes : List Change) (o : ℕ) (changed : own o some ≡ own o changes) where
+  pub by_same : (k : Key) → k.object ≡ o → write_by some k ≡ write_by changes k
+  by_same k of = sym (by_one some k) ∙ (ap (λ x. write_by x k) (subst (λ p. own p some ≡ own p changes) (sym of) changed) ∙ by_one changes k)
 
-    kept_same : (t : ℕ) → kept t s.some o ≡ kept t changes o
-    kept_same t = sym (kept_one t s.some o) ∙ (ap (λ x. kept t x o) s.changed ∙ kept_one t changes o)
+  pub last_same : write_of some o ≡ write_of changes o
+  last_same = sym (last_one some o) ∙ (ap (λ x. write_of x o) changed ∙ last_one changes o)
+
+  kept_same : (t : ℕ) → kept t some o ≡ kept t changes o
+  kept_same t = sym (kept_one t some o) ∙ (ap (λ x. kept t x o) changed ∙ kept_one t changes o)
+
+module _ (digest : List ℕ → List ℕ) (committed : ℕ) (changes : List Change) (marks : List Mark) (blocks : Blocks) where
+  -- some blocks, of which an object has the same, store what befell it, beside marks that say the same of it
+  module _ (o : ℕ) (some : List Change) (said : List Mark) (held : Blocks) (s : Stores digest committed some said held) (changed : own o some ≡ own o changes)
+      (same : (m : ℕ) (k : Key) → k.object ≡ o → blocks m k ≡ held m k) (now : SameCheck o (check_by said) (check_by marks)) (at : (t : ℕ) → SameCheck o (check_at t said) (check_at t marks)) where
+    sealed_same : (t m : ℕ) (k : Key) → k.object ≡ o → sealed_at t blocks m k ≡ sealed_at t held m k
+    sealed_same t m k of = ap (seal_held t) (same m k of)
+
+    shown_same : (t m : ℕ) (k : Key) → k.object ≡ o → shown_at marks t blocks m k ≡ shown_at said t held m k
+    shown_same t m k of =
+        ap (λ b. if b then None else sealed_at t blocks m k) (sym (same_dropped o (check_at t said) (check_at t marks) k (at t) of))
+        ∙ ap (λ h. if is_dropped (check_at t said) k then None else h) (sealed_same t m k of)
+
+    -- of its checkpoint
+    own_of : (t : ℕ) (check : Check) → committed ≤ t → check_at t marks ≡ Some check → (c : Check) × (check_at t said ≡ Some c) × (c.group ≡ check.group) × ((k : Key) → k.object ≡ o → c.dropped k ≡ check.dropped k)
+    own_of t check from is = same_check o (check_at t said) (check_at t marks) check (at t) is
+
+    has : (t : ℕ) (c : Check) → committed ≤ t → check_at t said ≡ Some c → HasCheck some c (sealed_at t held)
+    has t c from is = s.checked t c from is
+
+    born_same : (t g h m : ℕ) (k : Key) → g ≡ h → k.object ≡ o → born_upto h (sealed_at t blocks) m k ≡ born_upto g (sealed_at t held) m k
+    born_same t g h m k is of = ap (λ b. born_by b (sealed_at t blocks m k)) (sym is) ∙ ap (born_by g) (sealed_same t m k of)
+
+    pub one_of : StoresOne digest committed changes marks blocks o
+    one_of = record {
+      falls = subst NeverFall changed (falls_one o some s.falls);
+      only = λ m k h of there block.
+          (let v = s.only m k h (sym (same m k of) ∙ there) block in
+          (v.0, sym (by_same some changes o changed k of) ∙ v.1, v.2, v.3));
+      last = λ t w from is. sym (by_same some changes o changed (key_of w) (write_object (upto t changes) o w is)) ∙ s.last t o w from (kept_same some changes o changed t ∙ is);
+      live = λ m k h of there live undropped.
+          (let was = s.live m k h (sym (same m k of) ∙ there) live (same_dropped o (check_by said) (check_by marks) k now of ∙ undropped) in
+          subst IsSome (last_same some changes o changed) (subst (λ p. IsSome (write_of some p)) of was));
+      says = λ t from. says_on (shown_at said t held) (shown_at marks t blocks) o (kept t changes o) (λ m k of. shown_same t m k of) (subst (SaysOf (shown_at said t held) o) (kept_same some changes o changed t) (s.says t o from));
+      kept_says = λ t check from is.
+          (let c = own_of t check from is in
+          says_on (born_upto c.0.group (sealed_at t held)) (born_upto check.group (sealed_at t blocks)) o (kept check.group changes o) (λ m k of. born_same t c.0.group check.group m k c.2 of)
+          (subst (SaysOf (born_upto c.0.group (sealed_at t held)) o) (kept_same some changes o changed c.0.group ∙ ap (λ g. kept g changes o) c.2) ((has t c.0 from c.1).says o)));
+      kept_last = λ t check w from is kept_is.
+          (let c = own_of t check from is in
+          sym (by_same some changes o changed (key_of w) (write_object (upto check.group changes) o w kept_is))
+          ∙ (has t c.0 from c.1).last o w (kept_same some changes o changed c.0.group ∙ (ap (λ g. kept g changes o) c.2 ∙ kept_is)));
+      one = λ t check from is m n j k j_of k_of a b.
+          (let c = own_of t check from is in
+          (has t c.0 from c.1).one o m n j k j_of k_of (subst IsSome (born_same t c.0.group check.group m j c.2 j_of) a) (subst IsSome (born_same t c.0.group check.group n k c.2 k_of) b));
+      drops = λ t check k from is of dropped.
+          (let c = own_of t check from is in
+          let z = (has t c.0 from c.1).drops k (c.3 k of ∙ dropped) in
+          (z.0, subst IsSome (sym (born_same t c.0.group check.group z.0 k c.2 of)) z.1));
+    }
+
+  -- no block is of an object, and nothing befell it or was dropped of it
+  module _ (o : ℕ) (none : own o changes ≡ []) (gone : (m : ℕ) (k : Key) → k.object ≡ o → blocks m k ≡ None) (at : (t : ℕ) → Undropped o (check_at t marks)) where
+    none_kept : (t : ℕ) → kept t changes o ≡ None
+    none_kept t = sym (kept_one t changes o) ∙ ap (λ x. kept t x o) none
+
+    none_sealed : (t m : ℕ) (k : Key) → k.object ≡ o → sealed_at t blocks m k ≡ None
+    none_sealed t m k of = ap (seal_held t) (gone m k of)
+
+    none_born : (t g m : ℕ) (k : Key) → k.object ≡ o → born_upto g (sealed_at t blocks) m k ≡ None
+    none_born t g m k of = ap (born_by g) (none_sealed t m k of)
+
+    none_shown : (t m : ℕ) (k : Key) → k.object ≡ o → shown_at marks t blocks m k ≡ None
+    none_shown t m k of = ap (λ h. if is_dropped (check_at t marks) k then None else h) (none_sealed t m k of) ∙ either (is_dropped (check_at t marks) k) None
+      where
+        either : (b : Bool) (x : Option Held) → (if b then x else x) ≡ x
+        either true x = refl
+        either false x = refl
+
+    undropped : (t : ℕ) (check : Check) (k : Key) → check_at t marks ≡ Some check → k.object ≡ o → check.dropped k ≡ false
+    undropped t check k is of = subst (Undropped o) is (at t) k of
+
+    pub one_none : StoresOne digest committed changes marks blocks o
+    one_none = record {
+      falls = subst NeverFall (sym none) tt;
+      only = λ m k h of there block. absurd (none_some (blocks m k) h (gone m k of) there);
+      last = λ t w from is. absurd (none_some (kept t changes o) w (none_kept t) is);
+      live = λ m k h of there live dropped. absurd (none_some (blocks m k) h (gone m k of) there);
+      says = λ t from. subst (SaysOf (shown_at marks t blocks) o) (sym (none_kept t)) (λ m k of. none_shown t m k of);
+      kept_says = λ t check from is. subst (SaysOf (born_upto check.group (sealed_at t blocks)) o) (sym (none_kept check.group)) (λ m k of. none_born t check.group m k of);
+      kept_last = λ t check w from is kept_is. absurd (none_some (kept check.group changes o) w (none_kept check.group) kept_is);
+      one = λ t check from is m n j k j_of k_of a b. absurd_test false (subst IsSome (none_born t check.group m j j_of) a) refl;
+      drops = λ t check k from is of dropped. absurd_test (check.dropped k) dropped (undropped t check k is of);
+    }
 
   -- so where it is so of each object
-  pub stores_by : ((o : ℕ) → StoresOne digest committed changes blocks o) → Stores digest committed changes [] blocks
-  stores_by each = record {
-    falls = falls_from changes (λ o. (let s = each o in subst NeverFall s.changed (falls_one o s.some s.stores.falls)));
-    marked = tt;
-    only = λ m k h at block.
-        (let s = each k.object in
-        let v = s.stores.only m k h (sym (s.same m k refl) ∙ at) block in
-        (v.0, sym (by_same k.object s k refl) ∙ v.1, v.2, v.3));
-    last = λ t o w from is.
-        (let s = each o in
-        sym (by_same o s (key_of w) (write_object (upto t changes) o w is)) ∙ s.stores.last t o w from (kept_same o s t ∙ is));
-    live = λ m k h at live undropped. (let s = each k.object in subst IsSome (last_same k.object s) (s.stores.live m k h (sym (s.same m k refl) ∙ at) live undropped));
-    says = λ t o from.
-        (let s = each o in
-        says_on (shown_at [] t s.held) (shown_at [] t blocks) o (kept t changes o) (λ m k of. ap (seal_held t) (s.same m k of)) (subst (SaysOf (shown_at [] t s.held) o) (kept_same o s t) (s.stores.says t o from)));
-    checked = λ t check from is. absurd (cc);
+  pub stores_by : MarksNeverFall marks → ((o : ℕ) → StoresOne digest committed changes marks blocks o) → Stores digest committed changes marks blocks
+  stores_by falls each = record {
+    falls = falls_from changes (λ o. (each o).falls);
+    marked = falls;
+    only = λ m k h at block. (each k.object).only m k h refl at block;
+    last = λ t o w from is. (each o).last t w from is;
+    live = λ m k h at live undropped. (each k.object).live m k h refl at live undropped;
+    says = λ t o from. (each o).says t from;
+    checked = λ t check from is. record {
+      says = λ o. (each o).kept_says t check from is;
+      last = λ o w kept_is. (each o).kept_last t check w from is kept_is;
+      one = λ o. (each o).one t check from is;
+      drops = λ k dropped. (each k.object).drops t check k from is refl dropped;
+    };
   }
 
 -- ---- floors

@@ -18,17 +18,19 @@ use Rattle.draid_turn.specs.declared.span.Span.{Span}
 use Rattle.draid_uber.specs.Slots.{group_of}
 use Rattle.draid_uber.specs.Uber as ubers
 use Rattle.draid_uber.specs.declared.uber.Uber.{Uber}
-use Rattle.draid_pool.specs.Whole.{IsPointer, IsShardOf, IsWhole}
+use Rattle.draid_pool.specs.Whole.{IsPointer, IsShardOf, IsWhole, PointFits}
 use Rattle.draid_pool.specs.declared.cell.Cell.{Cell}
 use Rattle.draid_pool.specs.declared.own.Own.{Own}
 use Rattle.draid_pool.specs.declared.pool.Pool.{Pool}
 use Rattle.draid_pool.proofs.Lists.{present, some_of}
 use Rattle.draid_section.specs.Opening.{AreLocked, shard_under, shards_under}
 use Rattle.draid_tables.specs.Owns.{TakesAll, greatest}
-use Rattle.draid_section.specs.Section.{IsMadeOf, SameOwn, SamePool}
+use Rattle.draid_pool.specs.Keeping.{SamePool}
+use Rattle.draid_section.specs.Section.{IsMadeOf, SameOwn}
 use Rattle.draid_section.specs.Whole.{pointer_in}
 use Rattle.draid_section.proofs.Beginning.{first_of}
 use Rattle.draid_section.proofs.Kept.{get_map, list_same}
+use Rattle.draid_pool.proofs.Wholes.{fits_on}
 
 pub take_front : {X : Type 0} (n : ℕ) (xs ys : List X) → n ≡ length xs → take n (xs ++ ys) ≡ xs
 take_front zero [] ys is = refl
@@ -104,4 +106,7 @@ module _ {R A : Type 0} where
         objects = pointer_same;
         floor = (let near = w.floor in let same = s.floor in let is = ap (λ (u : Uber A). group_of (ubers.kept_of u)) s.uber in omega (arith, near, same, is));
         low = (let low = w.low in let same = s.floor in omega (arith, low, same));
+        point = subst (λ (u : Uber A). PointFits 0 (ubers.point_of u) (pointer_in new) new.own.seq) (sym s.uber)
+            (fits_on 0 (ubers.point_of pool.uber) (pointer_in pool) (pointer_in new) pool.own.seq new.own.seq (let same = s.seq in omega (arith, same)) (λ object pointer at. sym (s.objects object) ∙ at) w.point);
+        behind = λ own m shard is at. w.behind own m shard (ap (λ (u : Uber A). (ubers.point_of u).group) (sym s.uber) ∙ is) (was_at m shard at);
       }

@@ -75,6 +75,9 @@ use Rattle.draid_section.proofs.SectionStands.{any_owns, none_owns, owner_of, ow
 use Rattle.draid_section.proofs.SectionState.{Listed, listed, section_at, section_bytes, section_many, section_metaslabs, section_together, section_uber}
 use Rattle.draid_section.proofs.SectionTold.{begins_at, begins_bytes, came_single, governed_first, stands_first}
 use Rattle.draid_section.proofs.UberTurns.{UberTogether, with_uber}
+use Rattle.draid_objects.specs.Marks.{check_by}
+use Rattle.draid_pool.proofs.Points.{none_stands}
+use Rattle.draid_pool.specs.Objects.{blocks_of}
 
 module _ {R A G W J : Type 0} (rack : racks.Ghosts R) (area : areas.Ghosts A) (needs : J → Lane R A G W → Type 0) (relates : J → Lane R A G W → J → Lane R A G W → Type 0) (pool : Pool R A) (w : IsWhole rack area pool) (lists : List (Vec Span Global)) (al : AreLaneLists lists) (jobs : Vec J Global)
     (may : MayRunAll rack area needs pool lists jobs.items) (keeps : KeepLanes rack area needs relates) (locks : List (Lock (Cell R A))) (firsts : List (Caller (Past (Cell R A)))) (locked : AreLocked pool.metaslabs.shards.items locks firsts) (gl : Vec Span Global) (alone : gl.items ≡ groups_alone)
@@ -88,6 +91,10 @@ module _ {R A G W J : Type 0} (rack : racks.Ghosts R) (area : areas.Ghosts A) (n
 
   many_old : length ran.old.passes.items ≡ length lists
   many_old = lanes_many rack area needs relates pool w lists al jobs may keeps locks firsts locked gl alone owns dealt_out uber' shards' owns' jobs' ran
+
+  -- no checkpoint stood
+  unpointed : check_by x.store.marks ≡ None
+  unpointed = none_stands area pool.uber x (blocks_of x.metaslabs) r.stands.pieces r.stands.uber r.stands.holds r.stands.groups may.unpointed
 
   -- ---- one lane
 
@@ -105,7 +112,7 @@ module _ {R A G W J : Type 0} (rack : racks.Ghosts R) (area : areas.Ghosts A) (n
 
     -- what it did
     lane_led : LeadsLane rack area x (λ holds store. ((rests j.job → SawBytes rack area x j.next) → says j.job j.done x.store holds store) × Grows (owned_by j.lane.metaslabs.passes.items) x.store store) j.lane j.next
-    lane_led = tells j.job j.lane j.done j.next j.related x lane_stands
+    lane_led = tells j.job j.lane j.done j.next j.related x lane_stands unpointed
 
   -- a lane's trace, and where it comes from
   pub record LedBy (i : ℕ) (trace : Trace) : Type 0 where
@@ -471,6 +478,9 @@ module _ {R A G W J : Type 0} (rack : racks.Ghosts R) (area : areas.Ghosts A) (n
   adds : (i : ℕ) (trace : Trace) → slice_get section_traces i ≡ Some trace → trace.store.changes ≡ trace.since ++ x.store.changes
   adds i trace at = (let t = trace_at i trace at in subst (λ (z : Trace). z.store.changes ≡ z.since ++ x.store.changes) (sym t.is) t.led.done.1.added)
 
+  marks_lane : (i : ℕ) (trace : Trace) → slice_get section_traces i ≡ Some trace → trace.store.marks ≡ x.store.marks
+  marks_lane i trace at = (let t = trace_at i trace at in subst (λ (z : Trace). z.store.marks ≡ x.store.marks) (sym t.is) (t.led.done.1.marks unpointed))
+
   own_since : (i : ℕ) (trace : Trace) (lane : Vec (Caller (Past (Cell R A))) Global) → slice_get section_traces i ≡ Some trace → slice_get lanes i ≡ Some lane → All (λ c. owned_by lane.items (object_of c) ≡ true) trace.since
   own_since i trace lane at lane_is =
       let t = trace_at i trace at in
@@ -588,7 +598,7 @@ module _ {R A G W J : Type 0} (rack : racks.Ghosts R) (area : areas.Ghosts A) (n
     since_are (t ∷ ts) (l ∷ ls) others many none =
         flat_map-cons (λ (a : Owner). a.since) (owner_of t l) (owners_of others ts ls) ∙ (ap (λ cs. t.since ++ cs) (since_are ts ls others (omega (arith, many)) none) ∙ sym (flat_map-cons (λ (z : Trace). z.since) t ts))
 
-    added : store.changes ≡ all_since (section_owners rack area x pool r locks shards' zs u zs_many shards_many x_many final committed up section_traces lanes lanes_are_many (owned_by ran.rests) large apart apart_rest own_since adds tables seqs floors knows_each (table_in pool) rest_known q table_lane table_rest table_none seq_lane seq_rest floor_lane floor_rest next last geometry shards_q) ++ x.store.changes
+    added : store.changes ≡ all_since (section_owners rack area x pool r locks shards' zs u zs_many shards_many x_many final committed up section_traces lanes lanes_are_many (owned_by ran.rests) large apart apart_rest own_since adds marks_lane tables seqs floors knows_each (table_in pool) rest_known q table_lane table_rest table_none seq_lane seq_rest floor_lane floor_rest next last geometry shards_q) ++ x.store.changes
     added = ap (λ cs. cs ++ x.store.changes) (sym (since_are section_traces lanes _ lanes_are_many refl))
 
     reached : State
@@ -600,7 +610,7 @@ module _ {R A G W J : Type 0} (rack : racks.Ghosts R) (area : areas.Ghosts A) (n
 
     represents : Represents rack area q reached
     unfolding reached
-    represents = section_represents rack area x pool r locks shards' zs u zs_many shards_many x_many final committed up section_traces lanes lanes_are_many (owned_by ran.rests) large apart apart_rest own_since adds tables seqs floors knows_each (table_in pool) rest_known q table_lane table_rest table_none seq_lane seq_rest floor_lane floor_rest next last geometry shards_q store added r.stands.holds.unmarked refl refl uber_here (end_images rack area x locks shards' zs zs_many shards_many final (came_single rack area x) ran.under.over.back.value turns_are groups_many u governed (owned_by e.groups.items) held groups_drift store) (end_leaves rack area x locks shards' zs zs_many shards_many final (came_single rack area x) ran.under.over.back.value turns_are groups_many u governed (owned_by e.groups.items) held groups_drift store) governed.shared governed.versions (end_alike rack area x locks shards' zs zs_many shards_many final (came_single rack area x) ran.under.over.back.value turns_are groups_many u governed (owned_by e.groups.items) held groups_drift store)
+    represents = section_represents rack area x pool r locks shards' zs u zs_many shards_many x_many final committed up section_traces lanes lanes_are_many (owned_by ran.rests) large apart apart_rest own_since adds marks_lane tables seqs floors knows_each (table_in pool) rest_known q table_lane table_rest table_none seq_lane seq_rest floor_lane floor_rest next last geometry shards_q store added refl refl refl uber_here (end_images rack area x locks shards' zs zs_many shards_many final (came_single rack area x) ran.under.over.back.value turns_are groups_many u governed (owned_by e.groups.items) held groups_drift store) (end_leaves rack area x locks shards' zs zs_many shards_many final (came_single rack area x) ran.under.over.back.value turns_are groups_many u governed (owned_by e.groups.items) held groups_drift store) governed.shared governed.versions (end_alike rack area x locks shards' zs zs_many shards_many final (came_single rack area x) ran.under.over.back.value turns_are groups_many u governed (owned_by e.groups.items) held groups_drift store)
 
     -- ---- what is said of it
 
@@ -682,6 +692,7 @@ module _ {R A G W J : Type 0} (rack : racks.Ghosts R) (area : areas.Ghosts A) (n
             subst (λ (v : LaneDid). says j.job j.done x.store v.holds v.store) (ap did_of (sym t.is) ∙ z.2) (t.led.done.0 (λ rests. lane_saw i z.0 t)),
             subst (λ (v : LaneDid). v.store.changes ≡ v.since ++ x.store.changes) z.2 (adds i z.0 z.1),
           ));
+      unpointed = unpointed;
       reached = reached;
       represents = represents;
       together = together;

@@ -1,11 +1,11 @@
 -- The pool that is put together behind a section stands for the state to which its lanes led.
 use Rattle.std.proofs.Common.{◌≡◌, ◌∙◌, ◌++◌, ◌∷◌, ◌<◌, ◌≤◌, ◌+◌, ◌⊎◌, ◌&&◌, ◌||◌, inl, inr, arith, ℕ, zero, suc, Bool, true, false, not, List, [], Option, Some, None, All, length, refl, sym, ap, subst}
-use Rattle.std.specs.Prelude.{nat_eq, option_map, slice_get}
+use Rattle.std.specs.Prelude.{nat_eq, option_map, slice_get, filter, max}
 use Rattle.std.specs.HashMap.{get}
 use Rattle.std.specs.declared.vec.Vec.{Vec}
 use Rattle.std.specs.declared.alloc.Global.{Global}
 use Rattle.std.proofs.lemmas.Bool.{true≢false}
-use Rattle.std.proofs.lemmas.List.Elements.{All-nil}
+use Rattle.std.proofs.lemmas.List.Elements.{All-filter, All-nil}
 use Rattle.std.proofs.lemmas.Option.{slice_get_within}
 use Rattle.sha2.specs.Sha256.{sha256}
 use Rattle.draid_names.specs.declared.numbers.TheConstants.{LAST_NUMBER, OBJECTS}
@@ -21,8 +21,8 @@ use Rattle.draid_entries.specs.Entries.{held_in}
 use Rattle.draid_entries.specs.Maps.{staged}
 use Rattle.draid_objects.specs.Blocks.{Blocks, none_held, table_of}
 use Rattle.draid_objects.specs.Changes.{Write, object_of, write_of}
-use Rattle.draid_objects.specs.Stores.{IsFloor, Stores}
-use Rattle.draid_objects.proofs.Keeping.{commit_kept, none_floor, none_stored}
+use Rattle.draid_objects.specs.Stores.{AreMarkedUpto, IsBehindChecks, IsFloor, Stores}
+use Rattle.draid_objects.proofs.Keeping.{commit_kept, none_floor}
 use Rattle.draid_shard.specs.declared.shard.Shard.{Shard}
 use Rattle.draid_shard.proofs.Held.{held_entry}
 use Rattle.draid_turn.specs.Calls.{Caller, Lock}
@@ -33,7 +33,7 @@ use Rattle.draid_pool.specs.Metaslabs.{IsMetaslab}
 use Rattle.draid_pool.specs.Objects.{HoldsObjects, IsLastAt, PointsTo, blocks_of}
 use Rattle.draid_pool.specs.Pools.{Represents, part_in}
 use Rattle.draid_pool.specs.Records.{HasImages, HasLeafNumbers}
-use Rattle.draid_pool.specs.Threads.{Bounds, Knows, all_of, own_blocks, own_changes, own_store}
+use Rattle.draid_pool.specs.Threads.{Bounds, Knows, all_of, own_blocks, own_changes, own_store, is_own_mark}
 use Rattle.draid_pool.specs.Ubers.{IsUber}
 use Rattle.draid_pool.specs.declared.cell.Cell.{Cell}
 use Rattle.draid_pool.specs.declared.pool.Pool.{Pool}
@@ -44,10 +44,16 @@ use Rattle.draid_pool.proofs.Owning.{own_is, own_not, write_own}
 use Rattle.draid_lanes.specs.Locks.{left_in, owned_by}
 use Rattle.draid_section.proofs.Finals.{FinalAt}
 use Rattle.draid_section.proofs.Joined.{AreOwners, Owner, OwnerOf, all_since, holds_joined, joined_pieces, metaslab_joined, own_kept, write_joined}
-use Rattle.draid_section.proofs.Objectwise.{StoresOne, floor_on, stores_by}
+use Rattle.draid_section.proofs.Objectwise.{StoresOne, floor_on, one_none, one_of, stores_by}
 use Rattle.draid_section.proofs.RanTogether.{Trace}
 use Rattle.draid_section.proofs.Restricted.{none_seen}
 use Rattle.draid_section.proofs.UberTurns.{with_uber}
+use Rattle.draid_objects.specs.Marks.{Mark, MarksNeverFall, check_at, check_by, is_dropped, mark_group}
+use Rattle.draid_section.proofs.Markwise.{behind_all, marks_own, own_check, own_check_at, own_undropped_at, same_back, same_dropped}
+use Rattle.draid_pool.proofs.Marked.{marked_later, max_next, max_up}
+
+both_up : (a b c : ℕ) → a ≤ b → b ≤ c → a ≤ c
+both_up a b c low high = omega (arith, low, high)
 
 -- ---- who owns what
 
@@ -128,6 +134,7 @@ module _ {R A : Type 0} (rack : racks.Ghosts R) (area : areas.Ghosts A) (x : Sta
     (apart_rest : (i : ℕ) (a : Vec (Caller (Past (Cell R A))) Global) (o : ℕ) → slice_get lanes i ≡ Some a → owned_by a.items o ≡ true → rests o ≡ true → ⊥)
     (own_since : (i : ℕ) (trace : Trace) (lane : Vec (Caller (Past (Cell R A))) Global) → slice_get traces i ≡ Some trace → slice_get lanes i ≡ Some lane → All (λ c. owned_by lane.items (object_of c) ≡ true) trace.since)
     (adds : (i : ℕ) (trace : Trace) → slice_get traces i ≡ Some trace → trace.store.changes ≡ trace.since ++ x.store.changes)
+    (marks_lane : (i : ℕ) (trace : Trace) → slice_get traces i ≡ Some trace → trace.store.marks ≡ x.store.marks)
     (tables : ℕ → ℕ → Option Pointer) (seqs floors : ℕ → ℕ)
     (knows : (i : ℕ) (trace : Trace) (lane : Vec (Caller (Past (Cell R A))) Global) → slice_get traces i ≡ Some trace → slice_get lanes i ≡ Some lane → Knows rack area (owned_by lane.items) (λ m. slice_get shards m) (tables i) (seqs i) (floors i) (record x { metaslabs = zs; store = trace.store }))
     (table : ℕ → Option Pointer) (knows_rest : Knows rack area rests (λ m. slice_get shards m) table pool.own.seq pool.own.floor (record x { metaslabs = zs; store = x.store }))
@@ -312,23 +319,30 @@ module _ {R A : Type 0} (rack : racks.Ghosts R) (area : areas.Ghosts A) (x : Sta
 
   holds_nobody : (now : ℕ → Pieces) → HoldsObjects x.geometry u.committed (own_store nobody x.store) of_nobody now
   holds_nobody now = record {
-    stores = stores_by sha256 u.committed (own_changes nobody x.store.changes) of_nobody (λ o. one o (nobody o) refl);
-    unmarked = r.stands.holds.unmarked;
+    stores = stores_by sha256 u.committed (own_changes nobody x.store.changes) no_marks of_nobody (marks_own nobody x.store.marks r.stands.holds.stores.marked) (λ o. one o (nobody o) refl);
     floors = λ o. floor o (nobody o) refl;
     settled = λ m k h at. absurd (none_some (of_nobody m k) h (nothing_held m k) at);
     numbered = λ m k h at. absurd (none_some (of_nobody m k) h (nothing_held m k) at);
+    positive = All-filter (is_own_mark nobody) (λ q. 1 ≤ mark_group q) x.store.marks r.stands.holds.positive;
     bytes = λ m k h write at. absurd (none_some (of_nobody m k) h (nothing_held m k) at);
   }
     where
-      raised : Stores sha256 u.committed x.store.changes [] (blocks_of x.metaslabs)
-      raised = commit_kept sha256 x.committed x.store.changes [] (blocks_of x.metaslabs) (blocks_of x.metaslabs) r.stands.holds.stores u.committed up (λ m k. inl refl)
+      no_marks : List Mark
+      no_marks = filter (is_own_mark nobody) x.store.marks
+
+      raised : Stores sha256 u.committed x.store.changes x.store.marks (blocks_of x.metaslabs)
+      raised = commit_kept sha256 x.committed x.store.changes x.store.marks (blocks_of x.metaslabs) (blocks_of x.metaslabs) r.stands.holds.stores u.committed up (λ m k. inl refl)
 
       same : (o : ℕ) → nobody o ≡ true → (m : ℕ) (k : Key) → k.object ≡ o → of_nobody m k ≡ blocks_of x.metaslabs m k
       same o mine m k of = nothing_held m k ∙ sym (large_first m k (let from = nobody_large o mine in omega (arith, from, of)))
 
-      one : (o : ℕ) (b : Bool) → nobody o ≡ b → StoresOne sha256 u.committed (own_changes nobody x.store.changes) of_nobody o
-      one o true is = record { some = x.store.changes; held = blocks_of x.metaslabs; stores = raised; changed = sym (own_kept nobody o x.store.changes is); same = same o is }
-      one o false is = record { some = []; held = λ m. none_held; stores = none_stored sha256 u.committed; changed = sym (none_seen nobody o x.store.changes is); same = λ m k of. nothing_held m k }
+      one : (o : ℕ) (b : Bool) → nobody o ≡ b → StoresOne sha256 u.committed (own_changes nobody x.store.changes) no_marks of_nobody o
+      one o true is =
+          one_of sha256 u.committed (own_changes nobody x.store.changes) no_marks of_nobody o x.store.changes x.store.marks (blocks_of x.metaslabs) raised (sym (own_kept nobody o x.store.changes is)) (same o is)
+          (same_back o (check_by no_marks) (check_by x.store.marks) (own_check nobody o is x.store.marks))
+          (λ t. same_back o (check_at t no_marks) (check_at t x.store.marks) (own_check_at nobody o is t x.store.marks))
+      one o false is =
+          one_none sha256 u.committed (own_changes nobody x.store.changes) no_marks of_nobody o (none_seen nobody o x.store.changes is) (λ m k of. nothing_held m k) (λ t. own_undropped_at nobody o is t x.store.marks)
 
       floor : (o : ℕ) (b : Bool) → nobody o ≡ b → IsFloor (own_changes nobody x.store.changes) of_nobody o x.store.floor
       floor o true is = floor_on x.store.changes (own_changes nobody x.store.changes) (blocks_of x.metaslabs) of_nobody o x.store.floor (sym (own_kept nobody o x.store.changes is)) (same o is) (r.stands.holds.floors o)
@@ -371,7 +385,7 @@ module _ {R A : Type 0} (rack : racks.Ghosts R) (area : areas.Ghosts A) (x : Sta
 
   -- ---- the state
 
-  module _ (store : Store) (added : store.changes ≡ all_since section_owners ++ x.store.changes) (unmarked : store.marks ≡ []) (seq_is : store.seq ≡ new.own.seq) (floor_is : store.floor ≡ new.own.floor) where
+  module _ (store : Store) (added : store.changes ≡ all_since section_owners ++ x.store.changes) (marks : store.marks ≡ x.store.marks) (seq_is : store.seq ≡ new.own.seq) (floor_is : store.floor ≡ new.own.floor) where
     abbrev now : State
     now = with_uber (record x { metaslabs = zs; store = store }) u
 
@@ -397,11 +411,31 @@ module _ {R A : Type 0} (rack : racks.Ghosts R) (area : areas.Ghosts A) (x : Sta
         by (OfRest place p) = (let k = r.stands.floor in let mine = ap (λ (b : Owner). b.store.floor) p in omega (arith, k, floor_rest, mine, floor_is))
         by (OfNobody place p) = (let k = r.stands.floor in let mine = ap (λ (b : Owner). b.store.floor) p in omega (arith, k, floor_rest, mine, floor_is))
 
+    marks_each : (i : ℕ) (a : Owner) → slice_get section_owners i ≡ Some a → a.store.marks ≡ store.marks
+    marks_each i a at = by (whose i a at)
+      where
+        by : Whose i a → a.store.marks ≡ store.marks
+        by (OfLane p) = subst (λ (b : Owner). b.store.marks ≡ store.marks) p.is (marks_lane i p.trace p.trace_is ∙ sym marks)
+        by (OfRest place p) = subst (λ (b : Owner). b.store.marks ≡ store.marks) p (sym marks)
+        by (OfNobody place p) = subst (λ (b : Owner). b.store.marks ≡ store.marks) p (sym marks)
+
+    falls : MarksNeverFall store.marks
+    falls = subst MarksNeverFall (sym marks) r.stands.holds.stores.marked
+
+    positive : All (λ q. 1 ≤ mark_group q) store.marks
+    positive = subst (All (λ q. 1 ≤ mark_group q)) (sym marks) r.stands.holds.positive
+
+    -- what all marks leave undropped, an owner's own do
+    own_counts : (owns : ℕ → Bool) (k : Key) (some : List Mark) → owns k.object ≡ true → some ≡ store.marks → is_dropped (check_by store.marks) k ≡ false → is_dropped (check_by (filter (is_own_mark owns) some)) k ≡ false
+    own_counts owns k some mine same counts =
+        subst (λ ms. is_dropped (check_by (filter (is_own_mark owns) ms)) k ≡ false) (sym same)
+        (same_dropped k.object (check_by (filter (is_own_mark owns) store.marks)) (check_by store.marks) k (own_check owns k.object mine store.marks) refl ∙ counts)
+
     each_holds : (i : ℕ) (a : Owner) → slice_get section_owners i ≡ Some a → HoldsObjects x.geometry u.committed (own_store a.owns a.store) (own_blocks (all_of a.owns) (blocks_of zs)) (pieces i)
     each_holds i a at = holds_at i (slice_get section_owners i) refl a at
 
     written : (o : ℕ) → write_of (own_changes (are.cover o).owner.owns (are.cover o).owner.store.changes) o ≡ write_of store.changes o
-    written = write_joined section_owners x.store.changes are x.geometry u.committed (blocks_of zs) pieces store added unmarked numbers floors_are each_holds
+    written = write_joined section_owners x.store.changes are x.geometry u.committed (blocks_of zs) pieces store added marks_each falls positive numbers floors_are each_holds
 
     points_by : (o : ℕ) (i : ℕ) (a : Owner) (w : Whose i a) → a.owns o ≡ true → write_of (own_changes a.owns a.store.changes) o ≡ write_of store.changes o → PointsTo shards (get nat_eq new.own.objects o) (write_of store.changes o)
     points_by o i a (OfLane p) owned is =
@@ -420,19 +454,27 @@ module _ {R A : Type 0} (rack : racks.Ghosts R) (area : areas.Ghosts A) (x : Sta
         let same : write_of x.store.changes o ≡ write_of store.changes o = sym (write_own nobody x.store.changes o mine) ∙ (ap (λ (b : Owner). write_of (own_changes b.owns b.store.changes) o) p ∙ is) in
         subst (λ (t : Option Pointer × Option Write). PointsTo shards t.0 t.1) (λ j. (sym (table_none o z.0 z.1) j, (sym (never o (large o z.0 z.1)) ∙ same) j)) tt
 
-    only_by : (m : ℕ) (k : Key) (h : Held) → blocks_of zs m k ≡ Some h → h.stage ≡ Live → IsLastAt m k (write_of store.changes k.object)
-    only_by m k h at live = subst (IsLastAt m k) (written k.object) (by (are.cover k.object).place (are.cover k.object).owner (whose (are.cover k.object).place (are.cover k.object).owner (are.cover k.object).there) (are.cover k.object).owned)
+    only_by : (m : ℕ) (k : Key) (h : Held) → blocks_of zs m k ≡ Some h → h.stage ≡ Live → is_dropped (check_by store.marks) k ≡ false → IsLastAt m k (write_of store.changes k.object)
+    only_by m k h at live counts = subst (IsLastAt m k) (written k.object) (by (are.cover k.object).place (are.cover k.object).owner (whose (are.cover k.object).place (are.cover k.object).owner (are.cover k.object).there) (are.cover k.object).owned)
       where
         by : (i : ℕ) (a : Owner) → Whose i a → a.owns k.object ≡ true → IsLastAt m k (write_of (own_changes a.owns a.store.changes) k.object)
         by i a (OfLane p) owned =
             let mine : owned_by p.lane.items k.object ≡ true = ap (λ (b : Owner). b.owns k.object) p.is ∙ owned in
             subst (λ (b : Owner). IsLastAt m k (write_of (own_changes b.owns b.store.changes) k.object)) p.is
-            ((knows i p.trace p.lane p.trace_is p.lane_is).but_it.holds.only m k h (own_is (all_of (owned_by p.lane.items)) (blocks_of zs) m k mine ∙ at) live)
+            ((knows i p.trace p.lane p.trace_is p.lane_is).but_it.holds.only m k h (own_is (all_of (owned_by p.lane.items)) (blocks_of zs) m k mine ∙ at) live
+            (own_counts (owned_by p.lane.items) k p.trace.store.marks mine (marks_lane i p.trace p.trace_is ∙ sym marks) counts))
         by i a (OfRest place p) owned =
             let mine : rests k.object ≡ true = ap (λ (b : Owner). b.owns k.object) p ∙ owned in
-            subst (λ (b : Owner). IsLastAt m k (write_of (own_changes b.owns b.store.changes) k.object)) p (knows_rest.but_it.holds.only m k h (own_is (all_of rests) (blocks_of zs) m k mine ∙ at) live)
+            subst (λ (b : Owner). IsLastAt m k (write_of (own_changes b.owns b.store.changes) k.object)) p (knows_rest.but_it.holds.only m k h (own_is (all_of rests) (blocks_of zs) m k mine ∙ at) live (own_counts rests k x.store.marks mine (sym marks) counts))
         by i a (OfNobody place p) owned =
             absurd (none_some (blocks_of zs m k) h (large_then m k (nobody_large k.object (ap (λ (b : Owner). b.owns k.object) p ∙ owned))) at)
+
+    marked_then : AreMarkedUpto (max store.floor (u.committed + 1)) x.store.marks
+    marked_then =
+        let was = r.stands.floor in
+        marked_later (max x.store.floor (x.committed + 1)) (max store.floor (u.committed + 1)) x.store.marks
+        (both_up (max x.store.floor (x.committed + 1)) (max store.floor (x.committed + 1)) (max store.floor (u.committed + 1)) (max_up x.store.floor store.floor (x.committed + 1) (omega (arith, was, floor_rest, floor_is)))
+        (max_next store.floor (x.committed + 1) (u.committed + 1) (omega (arith, up)))) r.stands.groups.marked
 
     -- what is so of the uberblock, and of all metaslabs by it
     module _ (uber_is : IsUber area new.uber now) (images : HasImages now) (leaves : HasLeafNumbers now) (shared : Shared) (versions : HasPoolVersions u.kept_version u.next_version shared) (alike : AllAlike shared now) where
@@ -447,8 +489,14 @@ module _ {R A : Type 0} (rack : racks.Ghosts R) (area : areas.Ghosts A) (x : Sta
           each = λ m shard y shard_is y_is.
               (let here = sym (ap (λ ss. slice_get ss m) shards_are) ∙ shard_is in
               metaslab_joined rack area (part_in x m) shard y (λ k. pieces (are.cover k.object).place m) (λ k. stands_at (are.cover k.object).place (slice_get section_owners (are.cover k.object).place) refl (are.cover k.object).owner (are.cover k.object).there m y y_is shard here));
-          holds = holds_joined section_owners x.store.changes are x.geometry u.committed (blocks_of zs) pieces store added unmarked numbers floors_are each_holds;
-          groups = record { committed = committed; next = omega (arith, next, floor_is); last = omega (arith, last, floor_is) };
+          holds = holds_joined section_owners x.store.changes are x.geometry u.committed (blocks_of zs) pieces store added marks_each falls positive numbers floors_are each_holds;
+          groups = record {
+            committed = committed;
+            next = omega (arith, next, floor_is);
+            last = omega (arith, last, floor_is);
+            checks = λ m y at. subst (λ ms. IsBehindChecks u.committed ms y.world.open_group) (sym marks) (behind_all rests u.committed y.world.open_group x.store.marks (knows_rest.but_it.holds.checks u.committed (bounds x.store) m y at));
+            marked = subst (AreMarkedUpto (max store.floor (u.committed + 1))) (sym marks) marked_then;
+          };
           objects = λ o. subst (λ ss. PointsTo ss (get nat_eq new.own.objects o) (write_of store.changes o)) (sym shards_are)
               (points_by o (are.cover o).place (are.cover o).owner (whose (are.cover o).place (are.cover o).owner (are.cover o).there) (are.cover o).owned (written o));
           seq = seq_is;

@@ -28,6 +28,7 @@ use Rattle.draid_section.specs.Running.{JobsRan, MayRunEach}
 use Rattle.draid_section.specs.Turning.{AreOfLanes, IsUberLock, UberComesBack}
 use Rattle.draid_section.specs.Whole.{pointer_in}
 use Rattle.draid_section.specs.declared.seats.Shares.{Shares}
+use Rattle.draid_uber.specs.Uber.{point_of}
 
 -- ---- a lane that begins
 
@@ -47,9 +48,10 @@ module _ {R A G W J : Type 0} (rack : racks.Ghosts R) (area : areas.Ghosts A) wh
     pub seq : lane.own.seq ≡ pool.own.seq
     pub floor : lane.own.floor ≡ pool.own.floor
 
-  -- each job has what it needs of such a lane
-  abbrev pub MayRunAll : (needs : J → Lane R A G W → Type 0) → Pool R A → List (Vec Span Global) → List J → Type 0
-  MayRunAll needs pool lists jobs = (i : ℕ) (job : J) (lane : Lane R A G W) → BeginsLane pool lists jobs i job lane → needs job lane
+  -- No checkpoint stands, and each job has what it needs of such a lane.
+  pub record MayRunAll (needs : J → Lane R A G W → Type 0) (pool : Pool R A) (lists : List (Vec Span Global)) (jobs : List J) : Type 0 where
+    pub unpointed : (point_of pool.uber).group ≡ None
+    pub each : (i : ℕ) (job : J) (lane : Lane R A G W) → BeginsLane pool lists jobs i job lane → needs job lane
 
   -- ---- what was done
 
@@ -122,15 +124,6 @@ module _ {R A G W J : Type 0} (rack : racks.Ghosts R) (area : areas.Ghosts A) wh
     pub takes : TakesAll lists owns'.items pool.own new.own
 
 module _ {R A : Type 0} where
-  -- a pool is as it was: its objects have the pointers that they had
-  pub record SamePool (old new : Pool R A) : Type 0 where
-    pub geometry : new.geometry ≡ old.geometry
-    pub metaslabs : new.metaslabs.shards.items ≡ old.metaslabs.shards.items
-    pub uber : new.uber ≡ old.uber
-    pub objects : (object : ℕ) → pointer_in new object ≡ pointer_in old object
-    pub seq : new.own.seq ≡ old.own.seq
-    pub floor : new.own.floor ≡ old.own.floor
-
   -- a pool has these parts
   pub record IsMadeOf (geometry : Geometry) (shards : Vec (Shard R A) Global) (uber : Uber A) (own : Own) (pool : Pool R A) : Type 0 where
     pub geometry_is : pool.geometry ≡ geometry

@@ -1,5 +1,5 @@
 -- A section in the words of a session: what each lane is said to have done, and to which state all of it led.
-use Rattle.std.specs.Prelude.{◌≡◌, ◌++◌, ◌∷◌, ℕ, List, [], Some, flat_map, length, map, max, slice_get}
+use Rattle.std.specs.Prelude.{◌≡◌, ◌++◌, ◌∷◌, ℕ, List, [], Some, flat_map, length, map, max, slice_get, None}
 use Rattle.draid_rack.specs.declared.Rack as racks
 use Rattle.draid_area.specs.declared.Area as areas
 use Rattle.draid_objects.specs.Changes.{Change}
@@ -11,6 +11,7 @@ use Rattle.draid_session.specs.State.{State, Store}
 use Rattle.draid_pool.specs.Knows.{KnowsPointers}
 use Rattle.draid_pool.specs.Pools.{Represents}
 use Rattle.draid_pool.specs.declared.pool.Pool.{Pool}
+use Rattle.draid_objects.specs.Marks.{check_by}
 
 -- what a lane did, what it has of its own in the end, and what befell its objects
 pub record LaneDid : Type 0 where
@@ -24,12 +25,13 @@ greatest_of f first [] = f first
 greatest_of f first (lane ∷ lanes) = max (f lane.store) (greatest_of f first lanes)
 
 module _ {R A J : Type 0} (rack : racks.Ghosts R) (area : areas.Ghosts A) (says : J → J → Store → List Hold → Store → Type 0) where
-  -- Each lane did what is said of its job, from what the pool had of its own. All of it led together to a state for which the pool stands then: of its own it has what befell all lanes' objects, and
+  -- Each lane did what is said of its job, from what the pool had of its own, where no checkpoint stood. All of it led together to a state for which the pool stands then: of its own it has what befell all lanes' objects, and
   -- numbers go on behind the greatest. Its metaslabs are in step, and agree on who is offline as they did.
   pub record SectionStood (x : State) (jobs done : List J) (new : Pool R A) : Type 0 where
     pub lanes : List LaneDid
     pub many : length lanes ≡ length jobs
     pub done_many : length done ≡ length jobs
+    pub unpointed : check_by x.store.marks ≡ None
     pub each : (i : ℕ) (lane : LaneDid) → slice_get lanes i ≡ Some lane
         → (job : J) × (end : J) × (slice_get jobs i ≡ Some job) × (slice_get done i ≡ Some end) × says job end x.store lane.holds lane.store × (lane.store.changes ≡ lane.since ++ x.store.changes)
     pub reached : State

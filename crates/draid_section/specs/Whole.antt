@@ -1,5 +1,5 @@
 -- From a whole pool to lanes that are whole, and back.
-use Rattle.std.specs.Prelude.{◌≡◌, ◌≤◌, ◌<◌, ◌⊎◌, ℕ, true, false, nat_eq, List, [], Option, Some, length, slice_get}
+use Rattle.std.specs.Prelude.{◌≡◌, ◌≤◌, ◌<◌, ◌⊎◌, ℕ, true, false, nat_eq, List, [], Option, Some, length, slice_get, None}
 use Rattle.std.specs.HashMap.{get}
 use Rattle.std.specs.declared.vec.Vec.{Vec}
 use Rattle.std.specs.declared.alloc.Global.{Global}
@@ -23,6 +23,7 @@ use Rattle.draid_pool.specs.declared.pool.Pool.{Pool}
 use Rattle.draid_lanes.specs.Locks.{AreOf, last_in, owned_by}
 use Rattle.draid_section.specs.Opening.{AreLocked, AreUnlocked}
 use Rattle.draid_lanes.specs.Ubers.{IsLane, IsUberOf}
+use Rattle.draid_uber.specs.Uber.{point_of}
 
 -- ---- a lane that begins
 
@@ -67,6 +68,8 @@ module _ {R A : Type 0} (rack : racks.Ghosts R) (area : areas.Ghosts A) where
     pub locked : AreLocked pool.metaslabs.shards.items locks firsts
     pub groups : Vec (Caller (Past (Cell R A))) Global
     pub governs : IsUberOf rack area locks uber groups
+    pub unpointed : (point_of pool.uber).group ≡ None
+    pub point : point_of uber ≡ point_of pool.uber
     pub lists : List (Vec (Caller (Past (Cell R A))) Global)
     pub unlocked : AreUnlocked rack area locks rests lists shards
     pub groups_in : (k : ℕ) × (slice_get lists k ≡ Some groups)

@@ -4,7 +4,8 @@ ghost use Rattle.draid_lanes.specs.Meeting.{groups_alone};
 ghost use Rattle.draid_pool.specs.Whole.{IsWhole};
 ghost use Rattle.draid_section.specs.Running.{KeepLanes};
 ghost use Rattle.draid_tables.specs.Lists.{AreLaneLists};
-ghost use Rattle.draid_section.specs.Section.{IsMadeOf, IsPlanned, MayRunAll, RunsInLanes, SameOwn, SamePool};
+ghost use Rattle.draid_pool.specs.Keeping.{SamePool};
+ghost use Rattle.draid_section.specs.Section.{IsMadeOf, IsPlanned, MayRunAll, RunsInLanes, SameOwn};
 
 use crate::locks::{Unlocked, lock_each, rooms};
 use crate::section::{Behind, run_locked};

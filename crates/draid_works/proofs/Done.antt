@@ -1,5 +1,5 @@
 -- What commands of a lane did, by their answers and replies.
-use Rattle.std.proofs.Common.{◌≡◌, ℕ, Bool, true, false, List, Option, Some, Result, Ok, Err, IfOk, Vec, Global, ap, refl, sym, subst, nat_eq}
+use Rattle.std.proofs.Common.{◌≡◌, ℕ, Bool, true, false, List, Option, Some, Result, Ok, Err, IfOk, Vec, Global, ap, refl, sym, subst, nat_eq, None}
 use Rattle.std.specs.Prelude.{IsErr, IsErrOf}
 use Rattle.std.specs.HashMap.{get}
 use Rattle.draid_names.specs.declared.fault.Failed.{Failed}
@@ -49,6 +49,9 @@ use Rattle.draid_works.specs.Waiting.{LooksBut, WriteSetsTable}
 use Rattle.draid_works.proofs.FilledIn.{KnowsThen}
 use Rattle.draid_works.proofs.BesideTable.{own_free, own_read, own_sum, own_write}
 use Rattle.draid_works.proofs.Waited.{left_all, left_less}
+use Rattle.draid_objects.specs.Marks.{check_by}
+use Rattle.draid_store.specs.Freeing.{HasLoose}
+use Rattle.draid_pool.proofs.Points.{none_kept_of}
 
 -- ---- what answers do, in the words of replies
 
@@ -103,7 +106,7 @@ module _ {R A G W : Type 0} (rack : racks.Ghosts R) (area : areas.Ghosts A) (old
   objects_as command reply does says so d = record {
     pass = d.pass;
     teaches = d.teaches;
-    step = λ x layout knows. carries_as x (LooksBut (does x)) (LooksBut (says x)) (λ holds store l. (l.0, l.1, so x l.0 store l.2)) (d.step x layout knows);
+    step = λ x layout none knows. carries_as x (LooksBut (does x)) (LooksBut (says x)) (λ holds store l. (l.0, l.1, so x l.0 store l.2)) (d.step x layout none knows);
   }
 
   module _ (choices : Choices) (reply : Reply) where
@@ -122,12 +125,12 @@ module _ {R A G W : Type 0} (rack : racks.Ghosts R) (area : areas.Ghosts A) (old
 
   module _ (reply : Reply) (pass : new.pass ≡ old.pass) where
     pub write_done : (chosen : List Room → Option ℕ → Type 0) (o : ℕ) (bytes : List ℕ) (result : Result Unit WriteFault) → owned_by old.metaslabs.passes.items o ≡ true → reply ≡ write_reply o result → WriteSetsTable o bytes (table_of old) (table_of new) result
-        → ((x : State) → x.geometry ≡ old.geometry → LaneKnows rack area old x → LaneCarries rack area old new x (LooksBut (WriteDoes x chosen o bytes result))) → ObjectsDone rack area (choices_by chosen) (WriteObject o bytes) reply old new
+        → ((x : State) → x.geometry ≡ old.geometry → check_by x.store.marks ≡ None → LaneKnows rack area old x → LaneCarries rack area old new x (LooksBut (WriteDoes x chosen o bytes result))) → ObjectsDone rack area (choices_by chosen) (WriteObject o bytes) reply old new
     write_done chosen o bytes result own said sets step = record {
       pass = pass;
       teaches = own_write (owned_by old.metaslabs.passes.items) (table_of old) (table_of new) o bytes result reply own said sets;
-      step = λ x layout knows. carries_as x (LooksBut (WriteDoes x chosen o bytes result)) (LooksBut (ReplyDoes x (choices_by chosen) (WriteObject o bytes) reply))
-          (λ holds store l. (l.0, l.1, subst (λ r. ReplyDoes x (choices_by chosen) (WriteObject o bytes) r l.0 store) (sym said) (write_says x chosen o bytes result l.0 store l.2))) (step x layout knows);
+      step = λ x layout none knows. carries_as x (LooksBut (WriteDoes x chosen o bytes result)) (LooksBut (ReplyDoes x (choices_by chosen) (WriteObject o bytes) reply))
+          (λ holds store l. (l.0, l.1, subst (λ r. ReplyDoes x (choices_by chosen) (WriteObject o bytes) r l.0 store) (sym said) (write_says x chosen o bytes result l.0 store l.2))) (step x layout none knows);
     }
 
     pub read_done : (o : ℕ) (result : Result (Vec ℕ Global) ObjectFault) → owned_by old.metaslabs.passes.items o ≡ true → reply ≡ read_reply o result → new.own ≡ old.own → ReadFinds (table_of old o) result
@@ -135,15 +138,15 @@ module _ {R A G W : Type 0} (rack : racks.Ghosts R) (area : areas.Ghosts A) (old
     read_done o result own said same finds step = record {
       pass = pass;
       teaches = own_read (owned_by old.metaslabs.passes.items) (table_of old) (table_of new) o result reply own (same_table same) said finds;
-      step = λ x layout knows. carries_as x (ReadDoes x o result) (LooksBut (ReadSays o reply x)) (λ holds store d. all_left (ReadSays o reply x) holds store (result, said, d)) (step x layout knows);
+      step = λ x layout none knows. carries_as x (ReadDoes x o result) (LooksBut (ReadSays o reply x)) (λ holds store d. all_left (ReadSays o reply x) holds store (result, said, d)) (step x layout knows);
     }
 
     pub free_done : (o : ℕ) (result : Result Unit FreeFault) → owned_by old.metaslabs.passes.items o ≡ true → reply ≡ free_reply o result → TriesTake o (table_of old) (table_of new) (Some result)
-        → ((x : State) → LaneKnows rack area old x → LaneCarries rack area old new x (LooksBut (FreeDoes x o result))) → DoesOnObjects rack area (FreeObject o) reply (FreeSays o reply) old new
+        → ((x : State) → HasLoose x.store o → LaneKnows rack area old x → LaneCarries rack area old new x (LooksBut (FreeDoes x o result))) → DoesOnObjects rack area (FreeObject o) reply (FreeSays o reply) old new
     free_done o result own said takes step = record {
       pass = pass;
       teaches = own_free (owned_by old.metaslabs.passes.items) (table_of old) (table_of new) o result reply own said takes;
-      step = λ x layout knows. carries_as x (LooksBut (FreeDoes x o result)) (LooksBut (FreeSays o reply x)) (λ holds store l. (l.0, l.1, (result, said, l.2))) (step x knows);
+      step = λ x layout none knows. carries_as x (LooksBut (FreeDoes x o result)) (LooksBut (FreeSays o reply x)) (λ holds store l. (l.0, l.1, (result, said, l.2))) (step x (λ w is. none_kept_of x.store.marks w.birth none) knows);
     }
 
     pub sum_done : (first count : ℕ) (result : Result (List ℕ) SumFault) → OwnsFrom (owned_by old.metaslabs.passes.items) first count → reply ≡ sum_reply first count result → new.own ≡ old.own → SumFinds (table_of old) first count result
@@ -151,7 +154,7 @@ module _ {R A G W : Type 0} (rack : racks.Ghosts R) (area : areas.Ghosts A) (old
     sum_done first count result own said same finds step = record {
       pass = pass;
       teaches = own_sum (owned_by old.metaslabs.passes.items) (table_of old) (table_of new) first count result reply own (same_table same) said finds;
-      step = λ x layout knows. carries_as x (SumTries x first count result) (LooksBut (SumSays first count reply x)) (sum_left x first count result reply said) (step x layout knows);
+      step = λ x layout none knows. carries_as x (SumTries x first count result) (LooksBut (SumSays first count reply x)) (sum_left x first count result reply said) (step x layout knows);
     }
 
 -- ---- replies are to their commands

@@ -1,5 +1,5 @@
 -- Objects of a lane's that were given contents one after another.
-use Rattle.std.proofs.Common.{◌≡◌, ◌∙◌, ◌<◌, ◌+◌, ℕ, suc, Bool, true, List, [], ◌++◌, Option, Result, Ok, Err, arith, refl, sym, subst}
+use Rattle.std.proofs.Common.{◌≡◌, ◌∙◌, ◌<◌, ◌+◌, ℕ, suc, Bool, true, List, [], ◌++◌, Option, Result, Ok, Err, arith, refl, sym, subst, None, ap}
 use Rattle.draid_names.specs.declared.room.Room.{Room}
 use Rattle.draid_names.specs.declared.refusal.WriteFault.{WriteFault}
 use Rattle.draid_names.specs.declared.refusal.WriteFault.TheVariants as fault
@@ -29,6 +29,8 @@ use Rattle.draid_lanes.specs.declared.lane.Lane.{Lane}
 use Rattle.draid_works.specs.Lanes.{LaneCarries, LaneKnows}
 use Rattle.draid_works.specs.Waiting.{LooksBut}
 use Rattle.draid_works.proofs.Waited.{led, leads_next, left_then}
+use Rattle.draid_objects.specs.Marks.{check_by}
+use Rattle.draid_works.proofs.Grown.{fills_leave}
 
 -- ---- of any metaslabs that one thread has
 
@@ -119,15 +121,15 @@ KnowsThen rack area old lane y = Knows rack area (owned_by old.metaslabs.passes.
 
 module _ {R A G W : Type 0} (rack : racks.Ghosts R) (area : areas.Ghosts A) (old mid new : Lane R A G W) (same : IsSameLane old mid) where
   -- the next step of the same lane is one of what the lane owned at first
-  pub goes_on : (does : State → List Hold → Store → Type 0) → ((y : State) → y.geometry ≡ mid.geometry → LaneKnows rack area mid y → LaneCarries rack area mid new y (does y))
-      → (y : State) → y.geometry ≡ old.geometry → KnowsThen rack area old mid y → LeadsBy rack area (LaneWent rack area) true mid.metaslabs new.metaslabs y (does y) (KnowsThen rack area old new)
-  goes_on does step y layout knows =
+  pub goes_on : (does : State → List Hold → Store → Type 0) → ((y : State) → y.geometry ≡ mid.geometry → check_by y.store.marks ≡ None → LaneKnows rack area mid y → LaneCarries rack area mid new y (does y))
+      → (y : State) → y.geometry ≡ old.geometry → check_by y.store.marks ≡ None → KnowsThen rack area old mid y → LeadsBy rack area (LaneWent rack area) true mid.metaslabs new.metaslabs y (does y) (KnowsThen rack area old new)
+  goes_on does step y layout none knows =
       subst (λ (o : ℕ → Bool). CarriesBy rack area (LaneWent rack area) true o (lane_last new.metaslabs) (table_of new) new.own.seq new.own.floor mid.metaslabs new.metaslabs y (does y)) same.owns
-      (step y (layout ∙ sym same.geometry) (subst (λ (o : ℕ → Bool). Knows rack area o (lane_last mid.metaslabs) (table_of mid) mid.own.seq mid.own.floor y) (sym same.owns) knows))
+      (step y (layout ∙ sym same.geometry) none (subst (λ (o : ℕ → Bool). Knows rack area o (lane_last mid.metaslabs) (table_of mid) mid.own.seq mid.own.floor y) (sym same.owns) knows))
 
 module _ {R A G W : Type 0} (rack : racks.Ghosts R) (area : areas.Ghosts A) (old mid new : Lane R A G W) (same : IsSameLane old mid) (chosen : List Room → Option ℕ → Type 0) (first len seed written : ℕ) (bytes : List ℕ) (result : Result Unit WriteFault)
-    (is : bytes ≡ content_of seed (first + written) len) (step : (y : State) → y.geometry ≡ mid.geometry → LaneKnows rack area mid y → LaneCarries rack area mid new y (LooksBut (WriteDoes y chosen (first + written) bytes result)))
-    (x : State) (geometry : x.geometry ≡ old.geometry) (m : LaneCarries rack area old mid x (LooksBut (FillsOf x chosen first len seed written))) where
+    (is : bytes ≡ content_of seed (first + written) len) (step : (y : State) → y.geometry ≡ mid.geometry → check_by y.store.marks ≡ None → LaneKnows rack area mid y → LaneCarries rack area mid new y (LooksBut (WriteDoes y chosen (first + written) bytes result)))
+    (x : State) (geometry : x.geometry ≡ old.geometry) (none : check_by x.store.marks ≡ None) (m : LaneCarries rack area old mid x (LooksBut (FillsOf x chosen first len seed written))) where
   -- where those before led
   abbrev y : State
   y = filled rack area (LaneWent rack area) true chosen first len seed x old.metaslabs mid.metaslabs new.metaslabs (KnowsThen rack area old mid) (KnowsThen rack area old new) written bytes is m
@@ -135,7 +137,7 @@ module _ {R A G W : Type 0} (rack : racks.Ghosts R) (area : areas.Ghosts A) (old
   -- the write of one more, from there
   next : LeadsBy rack area (LaneWent rack area) true mid.metaslabs new.metaslabs y (LooksBut (WriteDoes y chosen (first + written) bytes result)) (KnowsThen rack area old new)
   next = goes_on rack area old mid new same (λ z. LooksBut (WriteDoes z chosen (first + written) bytes result)) step y
-      (filled_layout rack area (LaneWent rack area) true chosen first len seed x old.metaslabs mid.metaslabs new.metaslabs (KnowsThen rack area old mid) (KnowsThen rack area old new) written bytes is m ∙ geometry) m.knows
+      (filled_layout rack area (LaneWent rack area) true chosen first len seed x old.metaslabs mid.metaslabs new.metaslabs (KnowsThen rack area old mid) (KnowsThen rack area old new) written bytes is m ∙ geometry) (ap check_by (fills_leave x.geometry x.perms chosen (λ object. content_of seed object len) first written x.store m.store m.done.0 none m.done.2) ∙ none) m.knows
 
   -- one more
   pub lane_fills_more : result ≡ Ok tt → LaneCarries rack area old new x (LooksBut (FillsOf x chosen first len seed (written + 1)))

@@ -1,5 +1,5 @@
 -- What befell objects by a lane's command is of objects that the lane owns.
-use Rattle.std.proofs.Common.{◌≡◌, ◌+◌, ◌++◌, ◌∷◌, ◌∙◌, [], ℕ, zero, suc, Bool, true, List, Option, arith, sym, ap}
+use Rattle.std.proofs.Common.{◌≡◌, ◌+◌, ◌++◌, ◌∷◌, ◌∙◌, [], ℕ, zero, suc, Bool, true, List, Option, arith, sym, ap, inl, inr, None, Some, refl}
 use Rattle.std.proofs.lemmas.List.{append_assoc}
 use Rattle.std.proofs.lemmas.List.Elements.{All-append, All-cons, All-nil}
 use Rattle.draid_names.specs.declared.refusal.WriteFault.{WriteFault}
@@ -11,7 +11,7 @@ use Rattle.draid_script.specs.Line.{Command, FillObjects, FreeObject, ReadObject
 use Rattle.draid_script.specs.declared.name.CommandName.TheVariants as name
 use Rattle.draid_reply.specs.declared.reply.Reply.{Reply}
 use Rattle.draid_reply.specs.declared.reply.Reply.TheVariants.{FillRefused, Filled, FreeNoObject, Freed, Missed, NoMemory, NoSpace, WriteLast, Written}
-use Rattle.draid_objects.specs.Changes.{Change, object_of}
+use Rattle.draid_objects.specs.Changes.{Change, object_of, Write, write_of}
 use Rattle.draid_objects.specs.Changes as changes
 use Rattle.draid_session.specs.Choices.{Choices}
 use Rattle.draid_session.specs.Does.{Does}
@@ -23,16 +23,26 @@ use Rattle.draid_session.proofs.Unchanged.{same_store}
 use Rattle.draid_store.specs.Fetching.{OwnsFrom}
 use Rattle.draid_lanes.specs.Telling.{Grows}
 use Rattle.draid_works.specs.Job.{IsOfLane}
+use Rattle.draid_objects.specs.Marks.{Mark, check_by}
+
+-- where no checkpoint stands nothing befalls one
+leaves_same : (marks after : List Mark) (w : Write) (floor group : ℕ) (holds : List Hold) → check_by marks ≡ None → writes.LeavesBlock marks w floor group holds after → after ≡ marks
+leaves_same marks after w floor group holds none (inl f) = f.2
+leaves_same marks after w floor group holds none (inr d) = absurd (let both = sym none ∙ d.0.1 in cc)
+
+earlier_same : (marks after : List Mark) (o : Option Write) (floor group : ℕ) (holds : List Hold) → check_by marks ≡ None → writes.LeavesEarlier marks o floor group holds after → after ≡ marks
+earlier_same marks after None floor group holds none f = f.2
+earlier_same marks after (Some w) floor group holds none f = leaves_same marks after w floor group holds none f
 
 module _ (owns : ℕ → Bool) where
   pub grows_self : (old new : Store) → new ≡ old → Grows owns old new
-  grows_self old new same = record { since = []; added = ap (λ (s : Store). s.changes) same; own = All-nil (λ c. owns (object_of c) ≡ true); marks = ap (λ (s : Store). s.marks) same }
+  grows_self old new same = record { since = []; added = ap (λ (s : Store). s.changes) same; own = All-nil (λ c. owns (object_of c) ≡ true); marks = λ none. ap (λ (s : Store). s.marks) same }
 
   -- nothing befell an object, whatever else is another
-  grows_none : (old new : Store) → new.changes ≡ old.changes → new.marks ≡ old.marks → Grows owns old new
+  grows_none : (old new : Store) → new.changes ≡ old.changes → (check_by old.marks ≡ None → new.marks ≡ old.marks) → Grows owns old new
   grows_none old new same marks = record { since = []; added = same; own = All-nil (λ c. owns (object_of c) ≡ true); marks = marks }
 
-  grows_one : (old new : Store) (c : Change) → owns (object_of c) ≡ true → new.changes ≡ c ∷ old.changes → new.marks ≡ old.marks → Grows owns old new
+  grows_one : (old new : Store) (c : Change) → owns (object_of c) ≡ true → new.changes ≡ c ∷ old.changes → (check_by old.marks ≡ None → new.marks ≡ old.marks) → Grows owns old new
   grows_one old new c mine added marks = record { since = c ∷ []; added = added; own = All-cons (λ d. owns (object_of d) ≡ true) c [] mine (All-nil (λ d. owns (object_of d) ≡ true)); marks = marks }
 
   pub grows_then : (old mid new : Store) → Grows owns old mid → Grows owns mid new → Grows owns old new
@@ -40,18 +50,18 @@ module _ (owns : ℕ → Bool) where
     since = two.since ++ one.since;
     added = two.added ∙ (ap (λ l. two.since ++ l) one.added ∙ sym (append_assoc two.since one.since old.changes));
     own = All-append (λ c. owns (object_of c) ≡ true) two.since one.since two.own one.own;
-    marks = two.marks ∙ one.marks;
+    marks = λ none. two.marks (ap check_by (one.marks none) ∙ none) ∙ one.marks none;
   }
 
   module _ (geometry : Geometry) (perms : Perms) where
     module _ (chosen : List Room → Option ℕ → Type 0) where
       writes_grow : (object : ℕ) (bytes : List ℕ) (old new : Store) (holds : List Hold) → owns object ≡ true → writes.Writes geometry perms chosen object bytes old holds new → Grows owns old new
       writes_grow object bytes old new holds mine w =
-          grows_one old new (changes.Wrote (record { object = object; seq = old.seq + 1; metaslab = w.m; birth = w.birth; bytes = bytes })) mine (ap (λ (s : Store). s.changes) w.made) (ap (λ (s : Store). s.marks) w.made)
+          grows_one old new (changes.Wrote (record { object = object; seq = old.seq + 1; metaslab = w.m; birth = w.birth; bytes = bytes })) mine (ap (λ (s : Store). s.changes) w.made) (λ none. ap (λ (s : Store). s.marks) w.made ∙ earlier_same old.marks w.marks (write_of old.changes object) w.birth w.group w.freed none w.leaves)
 
       refuses_grow : (object : ℕ) (bytes : List ℕ) (why : WriteFault) (old new : Store) (holds : List Hold) → writes.Refuses geometry perms chosen object bytes why old holds new → Grows owns old new
       refuses_grow object bytes (fault.NoSpace run disabled full worn) old new holds r = grows_self old new r.1
-      refuses_grow object bytes (fault.Missed columns) old new holds r = grows_none old new (ap (λ (s : Store). s.changes) r.made) (ap (λ (s : Store). s.marks) r.made)
+      refuses_grow object bytes (fault.Missed columns) old new holds r = grows_none old new (ap (λ (s : Store). s.changes) r.made) (λ none. ap (λ (s : Store). s.marks) r.made)
       refuses_grow object bytes fault.Last old new holds r = grows_self old new r.1
       refuses_grow object bytes fault.NoMemory old new holds r = grows_self old new r.1
 
@@ -85,7 +95,7 @@ module _ (owns : ℕ → Bool) where
       fill_grows first count len seed reply mine d = absurd d
 
       free_grows : (object : ℕ) (reply : Reply) → owns object ≡ true → DoesTo (FreeObject object) reply → Grows owns old new
-      free_grows object (Freed o) mine d = grows_one old new (changes.Freed object d.1.group) mine (ap (λ (s : Store). s.changes) d.1.made) (ap (λ (s : Store). s.marks) d.1.made)
+      free_grows object (Freed o) mine d = grows_one old new (changes.Freed object d.1.group) mine (ap (λ (s : Store). s.changes) d.1.made) (λ none. ap (λ (s : Store). s.marks) d.1.made ∙ leaves_same old.marks d.1.marks d.1.w old.floor d.1.group holds none d.1.leaves)
       free_grows object (FreeNoObject o) mine d = grows_self old new d.1
       free_grows object reply mine d = absurd d
 
@@ -102,3 +112,8 @@ module _ (owns : ℕ → Bool) where
       does_grow (RebuildPool limit) reply of_lane d = grows_self old new (same_store geometry perms choices old new holds (RebuildPool limit) reply tt d)
       does_grow (ScrubPool limit) reply of_lane d = grows_self old new (same_store geometry perms choices old new holds (ScrubPool limit) reply tt d)
       does_grow command reply of_lane d = absurd of_lane
+
+-- where no checkpoint stands none does behind a fill
+pub fills_leave : (geometry : Geometry) (perms : Perms) (chosen : List Room → Option ℕ → Type 0) (content : ℕ → List ℕ) (first count : ℕ) (old new : Store) (holds : List Hold) → check_by old.marks ≡ None → writes.Fills geometry perms chosen content first count old holds new
+    → new.marks ≡ old.marks
+fills_leave geometry perms chosen content first count old new holds none f = (fills_grow (λ object. true) geometry perms chosen content first count old new holds (λ object from below. refl) f).marks none

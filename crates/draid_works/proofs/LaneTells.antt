@@ -1,5 +1,5 @@
 -- What a lane's commands did, one after another, told in a session's words from whatever the lane knew.
-use Rattle.std.proofs.Common.{◌≡◌, ◌∷◌, ◌∙◌, [], ℕ, suc, Bool, true, false, List, Result, Ok, Err, arith, ap, refl, subst, sym, length, map}
+use Rattle.std.proofs.Common.{◌≡◌, ◌∷◌, ◌∙◌, [], ℕ, suc, Bool, true, false, List, Result, Ok, Err, arith, ap, refl, subst, sym, length, map, None}
 use Rattle.draid_names.specs.declared.fault.Failed.{Failed}
 use Rattle.draid_rack.specs.declared.Rack as racks
 use Rattle.draid_area.specs.declared.Area as areas
@@ -18,7 +18,7 @@ use Rattle.draid_pool.proofs.Lists.{present}
 use Rattle.draid_lanes.specs.Lanes.{IsSameLane, IsWholeLane}
 use Rattle.draid_lanes.specs.Locks.{last_of, left_in, owned_by}
 use Rattle.draid_lanes.specs.Telling.{Grows}
-use Rattle.draid_lanes.specs.Traces.{LaneTold, LeadsLane, SawBytes, StandsAt}
+use Rattle.draid_lanes.specs.Traces.{LeadsLane, SawBytes, StandsAt, ToldUnpointed}
 use Rattle.draid_lanes.specs.declared.lane.Lane.{Lane}
 use Rattle.draid_lanes.proofs.LaneCarried.{carries_leads}
 use Rattle.draid_lanes.proofs.TurnsThen.{leads_as, leads_none, leads_then, saw_before}
@@ -27,6 +27,7 @@ use Rattle.draid_works.specs.Replied.{CommandDone, DoesInTurn, ObjectsDone}
 use Rattle.draid_works.specs.Waiting.{LooksBut}
 use Rattle.draid_works.proofs.Grown.{does_grow, grows_self, grows_then}
 use Rattle.draid_works.proofs.TurnSays.{SaidBut, offline_said, online_said, rebuild_said, scrub_said, sync_said}
+use Rattle.draid_objects.specs.Marks.{check_by}
 
 -- A command did what its reply says, or an area failed it, where what that rests on is so. What befell objects is of a lane's own.
 abbrev Tells : State → Choices → (ℕ → Bool) → (saw : Type 0) → Command → Result Reply Failed → Store → List Hold → Store → Type 0
@@ -62,7 +63,7 @@ module _ {R A G W : Type 0} (rack : racks.Ghosts R) (area : areas.Ghosts A) (x :
   module _ (choices : Choices) (many : length x.metaslabs ≡ x.geometry.props.metaslabs) where
     -- ---- one command
 
-    module _ (old new : Lane R A G W) (whole : IsWholeLane rack area old) (same : IsSameLane old new) (y : State) (stands : StandsAt rack area x old y) where
+    module _ (old new : Lane R A G W) (whole : IsWholeLane rack area old) (same : IsSameLane old new) (y : State) (stands : StandsAt rack area x old y) (none : check_by y.store.marks ≡ None) where
       abbrev owns : ℕ → Bool
       owns = owned_by old.metaslabs.passes.items
 
@@ -78,7 +79,7 @@ module _ {R A G W : Type 0} (rack : racks.Ghosts R) (area : areas.Ghosts A) (x :
           (λ holds store l.
           let does = subst (λ (s : State). Does s.geometry s.perms choices content_of command y.store l.0 reply store) stands.same l.2 in
           (λ rests. (l.0, l.1, does), does_grow owns x.geometry x.perms choices y.store store l.0 command reply of_lane does))
-          (carries_leads rack area x old new whole.lane_is.fits.many same d.pass y stands (LooksBut (ReplyDoes y choices command reply)) (d.step y (known_geometry old whole y stands) stands.knows))
+          (carries_leads rack area x old new whole.lane_is.fits.many same d.pass y stands (LooksBut (ReplyDoes y choices command reply)) (d.step y (known_geometry old whole y stands) none stands.knows))
 
       in_turn : {T : Type 0} (IsAnswer did : T → Type 0) (leads : State → T → Store → List Hold → Store → Type 0) (command : Command) (said : Result Reply Failed)
           → ((answer : T) (holds : List Hold) (store : Store) → IsAnswer answer → leads x answer y.store holds store → ((IsScrub command → saw) → SaidBut x choices command said y.store holds store) × (store ≡ y.store))
@@ -109,18 +110,18 @@ module _ {R A G W : Type 0} (rack : racks.Ghosts R) (area : areas.Ghosts A) (x :
     -- ---- all of them
 
     pub commands_lead : (lines : List Line) (replies : List Reply) (stopped : Bool) (old new : Lane R A G W) → IsWholeLane rack area old → MayAllBeGiven (owned_by old.metaslabs.passes.items) lines → CommandsDone rack area choices lines replies stopped old new
-        → LaneTold rack area x (TellsAll x choices (owned_by old.metaslabs.passes.items) (SawBytes rack area x new) lines replies) old new
-    commands_lead [] [] false old new whole given d y stands =
+        → ToldUnpointed rack area x (TellsAll x choices (owned_by old.metaslabs.passes.items) (SawBytes rack area x new) lines replies) old new
+    commands_lead [] [] false old new whole given d y stands none =
         let owns = owned_by old.metaslabs.passes.items in
         subst (λ (l : Lane R A G W). LeadsLane rack area x (TellsAll x choices owns (SawBytes rack area x l) [] [] y.store) old l) (sym d)
         (leads_none rack area x old (TellsAll x choices owns (SawBytes rack area x old) [] [] y.store) y stands (λ rests. (refl, refl), grows_self owns y.store y.store refl))
-    commands_lead (line ∷ lines) (reply ∷ replies) stopped old new whole given d y stands =
+    commands_lead (line ∷ lines) (reply ∷ replies) stopped old new whole given d y stands none =
         let mid = d.0 in
         let owns = owned_by old.metaslabs.passes.items in
         let saw = SawBytes rack area x new in
-        let one = command_leads old mid whole d.1.same y stands (command_in line) (Ok reply) (given 0 line refl).of_lane d.2 in
+        let one = command_leads old mid whole d.1.same y stands none (command_in line) (Ok reply) (given 0 line refl).of_lane d.2 in
         let more : MayAllBeGiven (owned_by mid.metaslabs.passes.items) lines = subst (λ f. MayAllBeGiven f lines) (sym d.1.same.owns) (λ i other at. given (suc i) other at) in
-        let rest = commands_lead lines replies stopped mid new d.1.whole more d.3 one.reached one.stands in
+        let rest = commands_lead lines replies stopped mid new d.1.whole more d.3 one.reached one.stands (ap check_by (one.done.1.marks none) ∙ none) in
         leads_then rack area x old mid new (Tells x choices owns (SawBytes rack area x mid) (command_in line) (Ok reply) y.store) one (TellsAll x choices (owned_by mid.metaslabs.passes.items) saw lines replies one.reached.store) rest
         (TellsAll x choices owns saw (line ∷ lines) (reply ∷ replies) y.store) (
           λ rests.
@@ -128,9 +129,9 @@ module _ {R A G W : Type 0} (rack : racks.Ghosts R) (area : areas.Ghosts A) (x :
               (one.holds, rest.holds, did.0, one.reached.store, refl, did.1, did.2, rest.done.0 (λ has. rests (scrub_more line lines has)))),
           grows_then owns y.store one.reached.store rest.reached.store one.done.1 (subst (λ f. Grows f one.reached.store rest.reached.store) d.1.same.owns rest.done.1),
         )
-    commands_lead (line ∷ lines) [] true old new whole given d y stands =
+    commands_lead (line ∷ lines) [] true old new whole given d y stands none =
         let owns = owned_by old.metaslabs.passes.items in
         let saw = SawBytes rack area x new in
         leads_as rack area x old new (Tells x choices owns saw (command_in line) (Err d.0) y.store) (TellsAll x choices owns saw (line ∷ lines) [] y.store) (λ holds store l. (λ rests. l.0 (λ is. rests (scrub_here line lines is)), l.1))
-        (command_leads old new whole d.1.same y stands (command_in line) (Err d.0) (given 0 line refl).of_lane d.2)
-    commands_lead lines replies stopped old new whole given d y stands = absurd d
+        (command_leads old new whole d.1.same y stands none (command_in line) (Err d.0) (given 0 line refl).of_lane d.2)
+    commands_lead lines replies stopped old new whole given d y stands none = absurd d

@@ -37,6 +37,7 @@ module _ {R A S : Type 0} (rack : racks.Ghosts R) (area : areas.Ghosts A) (last 
     valid = λ valid. l.valid;
     part = l.part;
     later = (let same = l.groups.groups.committed in omega (arith, same));
+    opens = (let same = l.groups.groups.open_group_is in omega (arith, same));
     own = record { each = λ key own. inl (l.held key) };
     state = λ none. l.state owns;
   }

@@ -14,7 +14,7 @@ use Rattle.draid_session.specs.State.{State, Store}
 use Rattle.draid_session.specs.Writes as written
 use Rattle.draid_pool.specs.Looking.{HasMany}
 use Rattle.draid_pool.specs.Pools.{part_in}
-use Rattle.draid_pool.specs.Threads.{AllStay, Between, CarriesBy, IsWholeBy, Knows, LeadsBy}
+use Rattle.draid_pool.specs.Threads.{AllStay, Between, CarriesBy, IsWholeBy, Knows, LeadsBy, all_of, but}
 use Rattle.draid_pool.proofs.Joining.{Both, leads_as, leads_then, same_layout}
 use Rattle.draid_pool.proofs.LookRooms.{looks_append}
 use Rattle.draid_pool.proofs.Steps.{SameLayout, own_of}
@@ -24,6 +24,10 @@ use Rattle.draid_store.specs.Open.{KnowsEarlier, KnowsReplaced}
 use Rattle.draid_store.specs.Storing.{WriteAwaits, WritesBy, store_with}
 use Rattle.draid_store.specs.declared.fault.FreeFault.{FreeFault}
 use Rattle.draid_works.specs.Waiting.{FreesRest, LooksBut, StoresThrough}
+use Rattle.draid_pool.proofs.Points.{none_kept_of}
+use Rattle.draid_entries.specs.Maps.{key_of}
+use Rattle.draid_objects.specs.Marks.{check_by}
+use Rattle.draid_session.specs.Points.{KeepsBirth}
 
 -- ---- looks that are left out
 
@@ -118,8 +122,8 @@ module _ (x y : State) (s : SameLayout x y) (chosen : List Room → Option ℕ �
   write_own (Ok done) w = own_of x y (λ g p t. written.Writes g p chosen object bytes t holds new) s w
   write_own (Err why) w = own_of x y (λ g p t. written.Refuses g p chosen object bytes why t holds new) s w
 
-  awaits_own : WriteAwaits y chosen object bytes holds new → WriteAwaits x chosen object bytes holds new
-  awaits_own w = record {
+  awaits_own : (earlier : Pointer) → WriteAwaits y chosen object bytes None earlier holds new → WriteAwaits x chosen object bytes None earlier holds new
+  awaits_own earlier w = record {
     m = w.m;
     birth = w.birth;
     columns = w.columns;
@@ -130,6 +134,7 @@ module _ (x y : State) (s : SameLayout x y) (chosen : List Room → Option ℕ �
     few = own_of x y (λ g p t. w.columns ≤ g.spec.parity) s w.few;
     made = own_of x y (λ g p t. new ≡ store_with t object w.m w.birth bytes) s w.made;
     looks = w.looks;
+    kept = w.kept;
   }
 
 module _ {R A S : Type 0} (rack : racks.Ghosts R) (area : areas.Ghosts A) (went : S → ℕ → Shard R A → Shard R A → S → Type 0) (shared : Bool) (owns : ℕ → Bool) (now : ℕ → Option (Shard R A)) (a b c : S) (chosen : List Room → Option ℕ → Type 0) (object : ℕ) (bytes : List ℕ)
@@ -141,12 +146,13 @@ module _ {R A S : Type 0} (rack : racks.Ghosts R) (area : areas.Ghosts A) (went 
   layout = waited_layout rack area went shared a b c x known one
 
   -- it waited, and then it was served
-  pub served : (result : Result (Option Pointer) WriteFault) → WritesBy rack area went shared owns now b c chosen object bytes then_table then_seq then_floor y (Some result) → StoresThrough rack area went shared owns now a c chosen object bytes then_table then_seq then_floor x result
+  pub served : (result : Result (Option Pointer) WriteFault) → WritesBy rack area went shared owns now b c None chosen object bytes then_table then_seq then_floor y (Some result) → StoresThrough rack area went shared owns now a c chosen object bytes then_table then_seq then_floor x result
   served (Ok None) w = waits_but rack area went shared a b c x known one (WriteDoes x chosen object bytes (Ok tt)) (Knows rack area owns now then_table then_seq then_floor)
-      (leads_as rack area went shared b c y (WriteDoes y chosen object bytes (Ok tt)) (WriteDoes x chosen object bytes (Ok tt)) (Knows rack area owns now then_table then_seq then_floor) (λ holds store d. write_own x y layout chosen object bytes holds store (Ok tt) d) w)
-  served (Ok (Some earlier)) w = waits_but rack area went shared a b c x known one (WriteAwaits x chosen object bytes) (KnowsReplaced rack area owns now then_table then_seq then_floor (Some earlier) (write_of x.store.changes object))
-      (leads_as rack area went shared b c y (WriteAwaits y chosen object bytes) (WriteAwaits x chosen object bytes) (KnowsReplaced rack area owns now then_table then_seq then_floor (Some earlier) (write_of x.store.changes object)) (λ holds store d. awaits_own x y layout chosen object bytes holds store d)
-      (subst (λ (t : Store). LeadsBy rack area went shared b c y (WriteAwaits y chosen object bytes) (KnowsReplaced rack area owns now then_table then_seq then_floor (Some earlier) (write_of t.changes object))) layout.store w))
+      (leads_as rack area went shared b c y (λ holds store. WriteDoes y chosen object bytes (Ok tt) holds store × (store.marks ≡ y.store.marks)) (WriteDoes x chosen object bytes (Ok tt)) (Knows rack area owns now then_table then_seq then_floor)
+      (λ holds store d. write_own x y layout chosen object bytes holds store (Ok tt) d.0) w)
+  served (Ok (Some earlier)) w = waits_but rack area went shared a b c x known one (WriteAwaits x chosen object bytes None earlier) (KnowsReplaced rack area owns now then_table then_seq then_floor (Some earlier) (write_of x.store.changes object))
+      (leads_as rack area went shared b c y (WriteAwaits y chosen object bytes None earlier) (WriteAwaits x chosen object bytes None earlier) (KnowsReplaced rack area owns now then_table then_seq then_floor (Some earlier) (write_of x.store.changes object)) (λ holds store d. awaits_own x y layout chosen object bytes holds store earlier d)
+      (subst (λ (t : Store). LeadsBy rack area went shared b c y (WriteAwaits y chosen object bytes None earlier) (KnowsReplaced rack area owns now then_table then_seq then_floor (Some earlier) (write_of t.changes object))) layout.store w))
   served (Err why) w = waits_but rack area went shared a b c x known one (WriteDoes x chosen object bytes (Err why)) (Knows rack area owns now then_table then_seq then_floor)
       (leads_as rack area went shared b c y (WriteDoes y chosen object bytes (Err why)) (WriteDoes x chosen object bytes (Err why)) (Knows rack area owns now then_table then_seq then_floor) (λ holds store d. write_own x y layout chosen object bytes holds store (Err why) d) w)
 
@@ -178,21 +184,21 @@ module _ {R A S : Type 0} (rack : racks.Ghosts R) (area : areas.Ghosts A) (went 
 -- ---- what stays while it waits
 
 module _ {R A S : Type 0} (rack : racks.Ghosts R) (area : areas.Ghosts A) (went : S → ℕ → Shard R A → Shard R A → S → Type 0) (shared : Bool) (owns then_owns first_owns : ℕ → Bool) (same : first_owns ≡ owns) (kept : then_owns ≡ owns) (last now : ℕ → Option (Shard R A)) (a b : S)
-    (table then_table : ℕ → Option Pointer) (seq floor then_seq then_floor : ℕ) (does : State → List Hold → Store → Type 0) where
+    (table then_table : ℕ → Option Pointer) (seq floor then_seq then_floor : ℕ) (needs : State → Type 0) (does : State → List Hold → Store → Type 0) where
   -- what the thread owns
-  pub step_own : ((x : State) → Knows rack area first_owns last table seq floor x → CarriesBy rack area went shared then_owns now then_table then_seq then_floor a b x (does x))
-      → (x : State) → Knows rack area owns last table seq floor x → CarriesBy rack area went shared owns now then_table then_seq then_floor a b x (does x)
-  step_own step x knows =
-      subst (λ o. CarriesBy rack area went shared o now then_table then_seq then_floor a b x (does x)) kept (step x (subst (λ o. Knows rack area o last table seq floor x) (sym same) knows))
+  pub step_own : ((x : State) → needs x → Knows rack area first_owns last table seq floor x → CarriesBy rack area went shared then_owns now then_table then_seq then_floor a b x (does x))
+      → (x : State) → needs x → Knows rack area owns last table seq floor x → CarriesBy rack area went shared owns now then_table then_seq then_floor a b x (does x)
+  step_own step x needed knows =
+      subst (λ o. CarriesBy rack area went shared o now then_table then_seq then_floor a b x (does x)) kept (step x needed (subst (λ o. Knows rack area o last table seq floor x) (sym same) knows))
 
 module _ {R A S : Type 0} (rack : racks.Ghosts R) (area : areas.Ghosts A) (went : S → ℕ → Shard R A → Shard R A → S → Type 0) (shared : Bool) (owns then_owns first_owns : ℕ → Bool) (same : first_owns ≡ owns) (kept : then_owns ≡ owns) (last now : ℕ → Option (Shard R A)) (a b : S)
     (p : Pointer) (table : ℕ → Option Pointer) (seq floor : ℕ) (we : Write) (result : Option ℕ) where
-  pub earlier_own : ((x : State) (we : Write) → KnowsEarlier rack area first_owns last table seq floor p we x → EarlierSays rack area went shared first_owns then_owns last now a b p table table seq floor x we result)
-      → (x : State) → KnowsEarlier rack area owns last table seq floor p we x → EarlierSays rack area went shared owns owns last now a b p table table seq floor x we result
-  earlier_own says x knows =
+  pub earlier_own : ((x : State) (we : Write) → (KeepsBirth x.store.marks we.birth → ⊥) → KnowsEarlier rack area first_owns last table seq floor p we x → EarlierSays rack area went shared first_owns then_owns last now a b p table table seq floor x we result)
+      → (x : State) → (KeepsBirth x.store.marks we.birth → ⊥) → KnowsEarlier rack area owns last table seq floor p we x → EarlierSays rack area went shared owns owns last now a b p table table seq floor x we result
+  earlier_own says x loose knows =
       subst (λ o. EarlierSays rack area went shared owns o last now a b p table table seq floor x we result) kept
       (subst (λ o. EarlierSays rack area went shared o then_owns last now a b p table table seq floor x we result) same
-      (says x we (subst (λ o. KnowsEarlier rack area o last table seq floor p we x) (sym same) knows)))
+      (says x we loose (subst (λ o. KnowsEarlier rack area o last table seq floor p we x) (sym same) knows)))
 
 -- so many metaslabs are there, and valid
 pub many_stay : {R A : Type 0} (rack : racks.Ghosts R) (owns : ℕ → Bool) (count : ℕ) (last now : ℕ → Option (Shard R A)) (table : ℕ → Option Pointer) (seq floor : ℕ) → AllStay owns last now → IsWholeBy rack owns now table seq floor → HasMany rack count last → HasMany rack count now
@@ -204,19 +210,21 @@ many_stay rack owns count last now table seq floor stay whole many m lt =
 -- ---- a write whose earlier block is freed behind it
 
 module _ {R A S : Type 0} (rack : racks.Ghosts R) (area : areas.Ghosts A) (went : S → ℕ → Shard R A → Shard R A → S → Type 0) (shared : Bool) (owns : ℕ → Bool) (now : ℕ → Option (Shard R A)) (a b c : S) (chosen : List Room → Option ℕ → Type 0) (object : ℕ) (bytes : List ℕ) (p : Pointer)
-    (table : ℕ → Option Pointer) (seq floor group : ℕ) (x : State) (then_known : State → Type 0) where
+    (table : ℕ → Option Pointer) (seq floor group : ℕ) (x : State) (none : check_by x.store.marks ≡ None) (then_known : State → Type 0) where
   abbrev Replaced : State → Type 0
   Replaced = KnowsReplaced rack area owns now table seq floor (Some p) (write_of x.store.changes object)
 
-  pub replaced : LeadsBy rack area went shared a b x (LooksBut (WriteAwaits x chosen object bytes)) Replaced
-      → ((y : State) (we : Write) → KnowsEarlier rack area owns now table seq floor p we y → LeadsBy rack area went shared b c y (LooksBut (FreesRest y we floor group)) then_known)
+  pub replaced : LeadsBy rack area went shared a b x (LooksBut (WriteAwaits x chosen object bytes None p)) Replaced
+      → ((y : State) (we : Write) → (KeepsBirth y.store.marks we.birth → ⊥) → KnowsEarlier rack area owns now table seq floor p we y → LeadsBy rack area went shared b c y (LooksBut (FreesRest y we floor group)) then_known)
       → LeadsBy rack area went shared a c x (LooksBut (WriteDoes x chosen object bytes (Ok tt))) then_known
   replaced one next =
-      let y = led rack area went shared a b c x (LooksBut (WriteAwaits x chosen object bytes)) Replaced one in
+      let y = led rack area went shared a b c x (LooksBut (WriteAwaits x chosen object bytes None p)) Replaced one in
       let we = one.knows.0 in
       let w = one.done.2 in
+      let same : y.store.marks ≡ x.store.marks = ap (λ (t : Store). t.marks) w.made in
+      let loose : KeepsBirth y.store.marks we.birth → ⊥ = none_kept_of y.store.marks we.birth (ap check_by same ∙ none) in
       let born : w.birth ≡ floor = sym (ap (λ (t : Store). t.floor) w.made) ∙ one.knows.2.but_it.floor in
-      leads_next rack area went shared a b c x (LooksBut (WriteAwaits x chosen object bytes)) Replaced one (LooksBut (FreesRest y we floor group)) then_known (LooksBut (WriteDoes x chosen object bytes (Ok tt))) (next y we one.knows.2)
+      leads_next rack area went shared a b c x (LooksBut (WriteAwaits x chosen object bytes None p)) Replaced one (LooksBut (FreesRest y we floor group)) then_known (LooksBut (WriteDoes x chosen object bytes (Ok tt))) (next y we loose one.knows.2)
       (λ back store d.
       let l : LeavesLooks one.holds (w.front ++ w.back) = subst (LeavesLooks one.holds) w.are one.done.1 in (
         w.front ++ d.0,
@@ -231,7 +239,9 @@ module _ {R A S : Type 0} (rack : racks.Ghosts R) (area : areas.Ghosts A) (went 
           are = refl;
           tries = w.tries;
           few = w.few;
-          frees = subst (λ o. written.FreesEarlier o w.birth group d.0) (sym one.knows.1) (subst (λ f. written.FreesBlock we f group d.0) (sym born) d.2.0);
+          marks = x.store.marks;
+          leaves = subst (λ o. written.LeavesEarlier x.store.marks o w.birth group d.0 x.store.marks) (sym one.knows.1)
+              (inl (none_kept_of x.store.marks we.birth none, subst (λ f. written.FreesBlock we f group d.0) (sym born) d.2.0, refl));
           made = d.2.1 ∙ ap (λ (t : Store). record t { floor = group }) w.made;
         },
       ))

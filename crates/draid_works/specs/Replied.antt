@@ -1,5 +1,5 @@
 -- What a command of a lane did, by its reply, or by an area that failed it.
-use Rattle.std.specs.Prelude.{◌≡◌, ℕ, Bool, true, false, List, Option, Result, Ok, Err, IsErr, length}
+use Rattle.std.specs.Prelude.{◌≡◌, ℕ, Bool, true, false, List, Option, Result, Ok, Err, IsErr, length, None}
 use Rattle.draid_names.specs.declared.fault.Failed.{Failed}
 use Rattle.draid_names.specs.declared.pass_kind.PassKind.TheVariants.{Heal, Rebuild}
 use Rattle.draid_names.specs.declared.refusal.WriteFault.{WriteFault}
@@ -36,6 +36,7 @@ use Rattle.draid_works.specs.Mended.{MendedIn}
 use Rattle.draid_works.specs.Switched.{SwitchedIn}
 use Rattle.draid_works.specs.Told.{MendLane, SwitchLane}
 use Rattle.draid_works.specs.Waiting.{LooksBut}
+use Rattle.draid_objects.specs.Marks.{check_by}
 
 -- the reply to a write that had this answer
 abbrev pub write_reply : ℕ → Result Unit WriteFault → Reply
@@ -48,12 +49,12 @@ write_reply o (Err fault.NoMemory) = NoMemory name.Write
 module _ {R A G W : Type 0} (rack : racks.Ghosts R) (area : areas.Ghosts A) where
   -- ---- objects
 
-  -- A command on objects of the lane's had a reply. Whatever is known of these, the reply is true of them. Whatever state of the pool the lane knew, its holds are what is said to be done, but for looks, and
+  -- A command on objects of the lane's had a reply. Whatever is known of these, the reply is true of them. Whatever state of the pool the lane knew, where no checkpoint stands, its holds are what is said to be done, but for looks, and
   -- led to one that it knows. Its pass of the uberblock's lock is as it was.
   pub record DoesOnObjects (command : Command) (reply : Reply) (does : State → List Hold → Store → Type 0) (old new : Lane R A G W) : Type 0 where
     pub pass : new.pass ≡ old.pass
     pub teaches : TeachesOwn (owned_by old.metaslabs.passes.items) command reply (table_of old) (table_of new)
-    pub step : (x : State) → x.geometry ≡ old.geometry → LaneKnows rack area old x → LaneCarries rack area old new x (LooksBut (does x))
+    pub step : (x : State) → x.geometry ≡ old.geometry → check_by x.store.marks ≡ None → LaneKnows rack area old x → LaneCarries rack area old new x (LooksBut (does x))
 
   -- what is done is what a session says of the reply
   abbrev pub ObjectsDone : Choices → Command → Reply → (old new : Lane R A G W) → Type 0

@@ -35,5 +35,5 @@ module _ {R A S : Type 0} (rack : racks.Ghosts R) (area : areas.Ghosts A) (went 
     (then_table : ℕ → Option Pointer) (then_seq then_floor : ℕ) (x : State) where
   abbrev pub StoresThrough : Result (Option Pointer) WriteFault → Type 0
   StoresThrough (Ok None) = LeadsBy rack area went shared a b x (LooksBut (WriteDoes x chosen object bytes (Ok tt))) (Knows rack area owns now then_table then_seq then_floor)
-  StoresThrough (Ok (Some earlier)) = LeadsBy rack area went shared a b x (LooksBut (WriteAwaits x chosen object bytes)) (KnowsReplaced rack area owns now then_table then_seq then_floor (Some earlier) (write_of x.store.changes object))
+  StoresThrough (Ok (Some earlier)) = LeadsBy rack area went shared a b x (LooksBut (WriteAwaits x chosen object bytes None earlier)) (KnowsReplaced rack area owns now then_table then_seq then_floor (Some earlier) (write_of x.store.changes object))
   StoresThrough (Err why) = LeadsBy rack area went shared a b x (LooksBut (WriteDoes x chosen object bytes (Err why))) (Knows rack area owns now then_table then_seq then_floor)

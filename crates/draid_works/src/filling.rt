@@ -1,5 +1,5 @@
 //! Objects of a lane's that are given contents by a seed.
-ghost use Rattle.std.specs.Prelude.{◌≡◌, List, length};
+ghost use Rattle.std.specs.Prelude.{◌≡◌, List, None, length};
 ghost use Rattle.std.specs.Fn.{FnReturnsAt};
 ghost use Rattle.draid_choose.specs.Rooms.{IsChooser};
 ghost use Rattle.draid_pool.specs.Carries.{ReplyDoes};
@@ -7,6 +7,7 @@ ghost use Rattle.draid_script.specs.Line.{FillObjects, IsInRange};
 ghost use Rattle.draid_session.specs.Choices.{choices_by};
 ghost use Rattle.draid_session.specs.Making.{content_of};
 ghost use Rattle.draid_session.specs.Replies.{IsReplyTo};
+ghost use Rattle.draid_objects.specs.Marks.{check_by};
 ghost use Rattle.draid_session.specs.State.{State};
 ghost use Rattle.draid_spec.specs.Geometry.{IsGeometry};
 ghost use Rattle.draid_store.specs.Fetching.{OwnsFrom};
@@ -58,7 +59,7 @@ pub fn fill_in_lane<'a, 'b, R: Rack, A: Area, G: Gate, W: Wait, F: Fn(&[Room]) -
     ensures pass { lane.new.pass ≡ lane.old.pass }
     ensures fits { IsReplyTo (FillObjects first count len seed) result }
     ensures teaches { TeachesOwn (owned_by lane.old.metaslabs.passes.items) (FillObjects first count len seed) result (table_of lane.old) (table_of lane.new) }
-    ensures step { (x : State) → x.geometry ≡ lane.old.geometry → LaneKnows R.Rack A.Area lane.old x
+    ensures step { (x : State) → x.geometry ≡ lane.old.geometry → check_by x.store.marks ≡ None → LaneKnows R.Rack A.Area lane.old x
         → LaneCarries R.Rack A.Area lane.old lane.new x (LooksBut (ReplyDoes x (choices_by (FnReturnsAt F.Fn chooser.now)) (FillObjects first count len seed) result)) }
 {
     let Ok(mut bytes) = vec![in alloc; 0; len as usize] else {

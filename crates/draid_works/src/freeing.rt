@@ -4,6 +4,7 @@ ghost use Rattle.std.specs.HashMap.{get};
 ghost use Rattle.draid_session.specs.State.{State};
 ghost use Rattle.draid_pool.specs.Threads.{AllStay, CarriesBy, IsWholeBy, Knows};
 ghost use Rattle.draid_store.specs.Answers.{FreeDoes};
+ghost use Rattle.draid_store.specs.Freeing.{HasLoose};
 ghost use Rattle.draid_store.specs.Pointers.{TriesTake};
 ghost use Rattle.draid_works.specs.Waiting.{LooksBut};
 
@@ -30,7 +31,7 @@ pub fn free_through<R: Rack, A: Area, M: Metaslabs<R, A>, W: Wait>(
     ensures stay { AllStay (M.owns metaslabs.old) (M.last metaslabs.old) (M.last metaslabs.new) }
     ensures whole { IsWholeBy R.Rack (M.owns metaslabs.old) (M.last metaslabs.new) (λ o. get nat_eq own.new.objects o) own.new.seq own.new.floor }
     ensures takes { TriesTake object (λ o. get nat_eq own.old.objects o) (λ o. get nat_eq own.new.objects o) (Some result) }
-    ensures step { (x : State) → Knows R.Rack A.Area (M.owns metaslabs.old) (M.last metaslabs.old) (λ o. get nat_eq own.old.objects o) own.old.seq own.old.floor x
+    ensures step { (x : State) → HasLoose x.store object → Knows R.Rack A.Area (M.owns metaslabs.old) (M.last metaslabs.old) (λ o. get nat_eq own.old.objects o) own.old.seq own.old.floor x
         → CarriesBy R.Rack A.Area M.went M.shared (M.owns metaslabs.old) (M.last metaslabs.new) (λ o. get nat_eq own.new.objects o) own.new.seq own.new.floor metaslabs.old metaslabs.new x (LooksBut (FreeDoes x object result)) }
 {
     for _ in rt.forever() {

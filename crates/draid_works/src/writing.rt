@@ -1,5 +1,5 @@
 //! A block of a lane's object is written, as soon as a metaslab that has room takes it.
-ghost use Rattle.std.specs.Prelude.{◌≡◌, ◌≤◌, ◌<◌, ℕ, Ok, Option, Some, length, nat_eq, true};
+ghost use Rattle.std.specs.Prelude.{◌≡◌, ◌≤◌, ◌<◌, ℕ, None, Ok, Option, Some, length, nat_eq, true};
 ghost use Rattle.std.specs.Fn.{FnReturnsAt};
 ghost use Rattle.std.specs.HashMap.{get};
 ghost use Rattle.draid_choose.specs.Rooms.{IsChooser};
@@ -8,6 +8,8 @@ ghost use Rattle.draid_names.specs.declared.pointer.Pointer.{Pointer};
 ghost use Rattle.draid_spec.specs.Geometry.{IsGeometry};
 ghost use Rattle.draid_block.specs.Blocks.{cut_of};
 ghost use Rattle.draid_objects.specs.Changes.{Write};
+ghost use Rattle.draid_objects.specs.Marks.{check_by};
+ghost use Rattle.draid_session.specs.Points.{KeepsBirth};
 ghost use Rattle.draid_session.specs.State.{State};
 ghost use Rattle.draid_pool.specs.Looking.{HasMany};
 ghost use Rattle.draid_pool.specs.Threads.{AllStay, CarriesBy, HasPointer, HaveLayout, IsWholeBy, Knows};
@@ -29,7 +31,8 @@ use std::alloc::Global;
 use std::sync::Wait;
 use std::thread;
 
-/// Writes an object of a thread's own, and tries again until it is served. No metaslab is held while it waits.
+/// Writes an object of a thread's own, where no checkpoint stands, and tries again until it is served. No metaslab is held
+/// while it waits.
 pub fn write_through<R: Rack, A: Area, M: Metaslabs<R, A>, F: Fn(&[Room]) -> Option<u32>, W: Wait>(
     rt: &W,
     alloc: Global,
@@ -56,7 +59,7 @@ pub fn write_through<R: Rack, A: Area, M: Metaslabs<R, A>, F: Fn(&[Room]) -> Opt
     ensures stay { AllStay (M.owns metaslabs.old) (M.last metaslabs.old) (M.last metaslabs.new) }
     ensures whole { IsWholeBy R.Rack (M.owns metaslabs.old) (M.last metaslabs.new) (λ o. get nat_eq own.new.objects o) own.new.seq own.new.floor }
     ensures sets { WriteSetsTable object bytes.now (λ o. get nat_eq own.old.objects o) (λ o. get nat_eq own.new.objects o) result }
-    ensures step { (x : State) → x.geometry ≡ geometry.now → Knows R.Rack A.Area (M.owns metaslabs.old) (M.last metaslabs.old) (λ o. get nat_eq own.old.objects o) own.old.seq own.old.floor x
+    ensures step { (x : State) → x.geometry ≡ geometry.now → check_by x.store.marks ≡ None → Knows R.Rack A.Area (M.owns metaslabs.old) (M.last metaslabs.old) (λ o. get nat_eq own.old.objects o) own.old.seq own.old.floor x
         → CarriesBy R.Rack A.Area M.went M.shared (M.owns metaslabs.old) (M.last metaslabs.new) (λ o. get nat_eq own.new.objects o) own.new.seq own.new.floor metaslabs.old metaslabs.new x (LooksBut (WriteDoes x (FnReturnsAt F.Fn chooser.now) object bytes.now result)) }
 {
     let Ok(block) = Encoded::of(alloc, geometry, bytes) else {
@@ -101,12 +104,12 @@ fn store_through<R: Rack, A: Area, M: Metaslabs<R, A>, F: Fn(&[Room]) -> Option<
     ensures sets { StoreSetsTable object block.now.bytes (λ o. get nat_eq own.old.objects o) (λ o. get nat_eq own.new.objects o) (Some result) }
     // The pointer that comes back is that of a live block, which the table has no more.
     ensures earlier { (p : Pointer) → result ≡ Ok (Some p) → ComesBack R.Rack (M.owns metaslabs.old) (M.last metaslabs.new) (λ o. get nat_eq own.new.objects o) object p }
-    ensures step { (x : State) → x.geometry ≡ geometry.now → Knows R.Rack A.Area (M.owns metaslabs.old) (M.last metaslabs.old) (λ o. get nat_eq own.old.objects o) own.old.seq own.old.floor x
+    ensures step { (x : State) → x.geometry ≡ geometry.now → check_by x.store.marks ≡ None → Knows R.Rack A.Area (M.owns metaslabs.old) (M.last metaslabs.old) (λ o. get nat_eq own.old.objects o) own.old.seq own.old.floor x
         → StoresThrough R.Rack A.Area M.went M.shared (M.owns metaslabs.old) (M.last metaslabs.new) metaslabs.old metaslabs.new (FnReturnsAt F.Fn chooser.now) object block.now.bytes (λ o. get nat_eq own.new.objects o) own.new.seq own.new.floor x result }
 {
     for _ in rt.forever() {
         if let Some(stored) = write_encoded(
-            alloc, metaslabs, own, geometry, chooser, object, block,
+            alloc, metaslabs, own, geometry, None, chooser, object, block,
         ) {
             return stored;
         }
@@ -132,7 +135,7 @@ fn free_rest<R: Rack, A: Area, M: Metaslabs<R, A>, W: Wait>(
     ensures stay { AllStay (M.owns metaslabs.old) (M.last metaslabs.old) (M.last metaslabs.new) }
     ensures whole { (table : ℕ → Option Pointer) (seq : ℕ) → IsWholeBy R.Rack (M.owns metaslabs.old) (M.last metaslabs.old) table seq floor → IsApart table pointer
         → IsWholeBy R.Rack (M.owns metaslabs.old) (M.last metaslabs.new) table seq result }
-    ensures says { (table : ℕ → Option Pointer) (seq : ℕ) (x : State) (we : Write) → KnowsEarlier R.Rack A.Area (M.owns metaslabs.old) (M.last metaslabs.old) table seq floor pointer we x
+    ensures says { (table : ℕ → Option Pointer) (seq : ℕ) (x : State) (we : Write) → (KeepsBirth x.store.marks we.birth → ⊥) → KnowsEarlier R.Rack A.Area (M.owns metaslabs.old) (M.last metaslabs.old) table seq floor pointer we x
         → CarriesBy R.Rack A.Area M.went M.shared (M.owns metaslabs.old) (M.last metaslabs.new) table seq result metaslabs.old metaslabs.new x (LooksBut (FreesRest x we floor result)) }
 {
     for _ in rt.forever() {

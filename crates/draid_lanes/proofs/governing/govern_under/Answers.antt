@@ -60,6 +60,7 @@ returns g c =
       lane = parted_lane g.R.Rack g.A.Area now.turns.now lanes met now.passes.items lane was e.owns c.govern.new.uber c.args.count e.governor new c.part_all.new.groups parts;
       uber = parted_uber g.R.Rack g.A.Area now.turns.now lanes met now.passes.items lane was e.owns c.govern.new.uber c.args.count e.governor new c.part_all.new.groups parts (omega (arith, many, room, one, two));
       later = e.later;
+      point = e.point;
       layout = layout_through g.R.Rack g.A.Area turns lanes met may.lane_is met_so _ _ left e.layout;
       whole = whole_through g.R.Rack g.A.Area turns lanes met may.lane_is met_so _ _ left e.keeps;
       governed = record {

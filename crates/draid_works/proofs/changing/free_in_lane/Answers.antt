@@ -7,4 +7,4 @@ returns-clause-whole g c =
     lane_goes g.R.Rack g.A.Area c.args.lane.now c.free_through.new.metaslabs c.requires.whole e.locks e.owns c.free_through.new.own e.fits e.stay e.whole
 
 pub returns-clause-step : goal.returns-clause-step
-returns-clause-step g c x knows = c.free_through.ensures.step x knows
+returns-clause-step g c x loose knows = c.free_through.ensures.step x loose knows

@@ -10,4 +10,4 @@ returns-clause-whole g c =
     lane_goes g.R.Rack g.A.Area c.args.lane.now c.write_through.new.metaslabs c.requires.whole e.locks e.owns c.write_through.new.own e.fits e.stay e.whole
 
 pub returns-clause-step : goal.returns-clause-step
-returns-clause-step g c x layout knows = c.write_through.ensures.step x layout knows
+returns-clause-step g c x layout none knows = c.write_through.ensures.step x layout none knows

@@ -18,7 +18,7 @@ returns-in_default g c = record {
   pass = refl;
   fits = (refl, (let some = c.requires.range.0.0 in omega (arith, some)));
   teaches = own_unbegun (owned_by c.args.lane.now.metaslabs.passes.items) c.args.first c.args.len c.args.seed (table_of c.args.lane.now) c.args.count fault.NoMemory;
-  step = λ x layout knows. fill_unbegun g.R.Rack g.A.Area (LaneWent g.R.Rack g.A.Area) true (FnReturnsAt g.F.Fn c.args.chooser.now) c.args.first c.args.len c.args.seed x c.args.lane.now.metaslabs (LaneKnows g.R.Rack g.A.Area c.args.lane.now) c.args.count
+  step = λ x layout none knows. fill_unbegun g.R.Rack g.A.Area (LaneWent g.R.Rack g.A.Area) true (FnReturnsAt g.F.Fn c.args.chooser.now) c.args.first c.args.len c.args.seed x c.args.lane.now.metaslabs (LaneKnows g.R.Rack g.A.Area c.args.lane.now) c.args.count
       (let some = c.requires.range.0.0 in omega (arith, some)) knows;
 }
 
@@ -29,7 +29,7 @@ loop-written-init g c = record {
   same = same_lane c.args.lane.now;
   pass = refl;
   table = own_none (owned_by c.args.lane.now.metaslabs.passes.items) c.args.first c.args.len c.args.seed (table_of c.args.lane.now);
-  filled = λ x layout knows. fills_none g.R.Rack g.A.Area (LaneWent g.R.Rack g.A.Area) true (FnReturnsAt g.F.Fn c.args.chooser.now) c.args.first c.args.len c.args.seed x c.args.lane.now.metaslabs (LaneKnows g.R.Rack g.A.Area c.args.lane.now) knows;
+  filled = λ x layout none knows. fills_none g.R.Rack g.A.Area (LaneWent g.R.Rack g.A.Area) true (FnReturnsAt g.F.Fn c.args.chooser.now) c.args.first c.args.len c.args.seed x c.args.lane.now.metaslabs (LaneKnows g.R.Rack g.A.Area c.args.lane.now) knows;
 }
 
 pub write_in_lane-requires-clause-own : goal.write_in_lane-requires-clause-own
@@ -53,8 +53,8 @@ returns-in-Err g c =
       fits = (refl, c.loop-written-test.true);
       teaches = own_stopped (owned_by c.args.lane.now.metaslabs.passes.items) c.args.first c.args.len c.args.seed (table_of c.args.lane.now) (table_of c.loop-written.lane) (table_of c.write_in_lane.new.lane) c.loop-written.written c.args.count c.in-Err.why (c.args.first + c.loop-written.written) c.deref.result.now
           c.write_in_lane.result (let below = c.loop-written-test.true in c.requires.own (c.args.first + c.loop-written.written) (omega arith) (omega (arith, below))) c.in-Err.is c.write_in_lane.ensures.sets c.loop-written.invariant.table;
-      step = λ x layout knows. lane_fill_stopped g.R.Rack g.A.Area c.args.lane.now c.loop-written.lane c.write_in_lane.new.lane c.loop-written.invariant.same (FnReturnsAt g.F.Fn c.args.chooser.now) c.args.first c.args.len c.args.seed
-          c.loop-written.written c.deref.result.now c.write_in_lane.result is c.write_in_lane.ensures.step x layout (c.loop-written.invariant.filled x layout knows) c.args.count c.in-Err.why c.in-Err.is
+      step = λ x layout none knows. lane_fill_stopped g.R.Rack g.A.Area c.args.lane.now c.loop-written.lane c.write_in_lane.new.lane c.loop-written.invariant.same (FnReturnsAt g.F.Fn c.args.chooser.now) c.args.first c.args.len c.args.seed
+          c.loop-written.written c.deref.result.now c.write_in_lane.result is c.write_in_lane.ensures.step x layout none (c.loop-written.invariant.filled x layout none knows) c.args.count c.in-Err.why c.in-Err.is
           c.loop-written-test.true;
     }
 
@@ -73,8 +73,8 @@ loop-written-preserved g c =
       pass = c.write_in_lane.ensures.pass ∙ c.loop-written.invariant.pass;
       table = own_more (owned_by c.args.lane.now.metaslabs.passes.items) c.args.first c.args.len c.args.seed (table_of c.args.lane.now) (table_of c.loop-written.lane) (table_of c.write_in_lane.new.lane) c.loop-written.written c.deref.result.now c.write_in_lane.result (let below = c.loop-written-test.true in c.requires.own (c.args.first + c.loop-written.written) (omega arith) (omega (arith, below))) is c.in_default-write_in_lane.is
           c.write_in_lane.ensures.sets c.loop-written.invariant.table;
-      filled = λ x layout knows. lane_fills_more g.R.Rack g.A.Area c.args.lane.now c.loop-written.lane c.write_in_lane.new.lane c.loop-written.invariant.same (FnReturnsAt g.F.Fn c.args.chooser.now) c.args.first c.args.len c.args.seed
-          c.loop-written.written c.deref.result.now c.write_in_lane.result is c.write_in_lane.ensures.step x layout (c.loop-written.invariant.filled x layout knows) c.in_default-write_in_lane.is;
+      filled = λ x layout none knows. lane_fills_more g.R.Rack g.A.Area c.args.lane.now c.loop-written.lane c.write_in_lane.new.lane c.loop-written.invariant.same (FnReturnsAt g.F.Fn c.args.chooser.now) c.args.first c.args.len c.args.seed
+          c.loop-written.written c.deref.result.now c.write_in_lane.result is c.write_in_lane.ensures.step x layout none (c.loop-written.invariant.filled x layout none knows) c.in_default-write_in_lane.is;
     }
 
 pub returns : goal.returns
@@ -87,6 +87,6 @@ returns g c =
       pass = c.loop-written.invariant.pass;
       fits = (refl, refl);
       teaches = own_all (owned_by c.args.lane.now.metaslabs.passes.items) c.args.first c.args.len c.args.seed (table_of c.args.lane.now) (table_of c.loop-written.lane) c.loop-written.written c.args.count (omega (arith, ends, upto)) c.loop-written.invariant.table;
-      step = λ x layout knows. fills_all g.R.Rack g.A.Area (LaneWent g.R.Rack g.A.Area) true (FnReturnsAt g.F.Fn c.args.chooser.now) c.args.first c.args.len c.args.seed x c.args.lane.now.metaslabs c.loop-written.lane.metaslabs
-          (KnowsThen g.R.Rack g.A.Area c.args.lane.now c.loop-written.lane) c.loop-written.written c.args.count (omega (arith, ends, upto)) (c.loop-written.invariant.filled x layout knows);
+      step = λ x layout none knows. fills_all g.R.Rack g.A.Area (LaneWent g.R.Rack g.A.Area) true (FnReturnsAt g.F.Fn c.args.chooser.now) c.args.first c.args.len c.args.seed x c.args.lane.now.metaslabs c.loop-written.lane.metaslabs
+          (KnowsThen g.R.Rack g.A.Area c.args.lane.now c.loop-written.lane) c.loop-written.written c.args.count (omega (arith, ends, upto)) (c.loop-written.invariant.filled x layout none knows);
     }

@@ -7,6 +7,8 @@ use Rattle.draid_store.specs.Answers.{FreeDoes}
 use Rattle.draid_store.specs.Pointers.{TriesTake}
 use Rattle.draid_works.proofs.Waited.{Waits, freed_own, step_own, waits_more, waits_none}
 use Rattle.draid_works.proofs.freeing.free_through.Goals as goal
+use Rattle.draid_session.specs.State.{Store}
+use Rattle.draid_store.specs.Freeing.{HasLoose}
 
 pub loop-init : goal.loop-init
 loop-init g c = record {
@@ -16,7 +18,7 @@ loop-init g c = record {
   stay = stay_same (g.M.Metaslabs.owns c.args.metaslabs.now) (g.M.Metaslabs.last c.args.metaslabs.now);
   whole = c.requires.whole;
   takes = λ other. refl;
-  waits = λ x knows. waits_none g.R.Rack g.A.Area g.M.Metaslabs.went g.M.Metaslabs.shared c.args.metaslabs.now x (λ y. Knows g.R.Rack g.A.Area (g.M.Metaslabs.owns c.args.metaslabs.now) (g.M.Metaslabs.last c.args.metaslabs.now) (λ o. get nat_eq c.args.own.now.objects o) c.args.own.now.seq c.args.own.now.floor y) knows;
+  waits = λ x loose knows. waits_none g.R.Rack g.A.Area g.M.Metaslabs.went g.M.Metaslabs.shared c.args.metaslabs.now x (λ y. Knows g.R.Rack g.A.Area (g.M.Metaslabs.owns c.args.metaslabs.now) (g.M.Metaslabs.last c.args.metaslabs.now) (λ o. get nat_eq c.args.own.now.objects o) c.args.own.now.seq c.args.own.now.floor y) knows;
 }
 
 pub free_object-requires : goal.free_object-requires
@@ -41,14 +43,14 @@ loop-preserved g c =
           (subst (λ o. AllStay o (g.M.Metaslabs.last c.loop.metaslabs) (g.M.Metaslabs.last c.free_object.new.metaslabs)) i.owns e.stay);
       whole = subst (λ o. IsWholeBy g.R.Rack o (g.M.Metaslabs.last c.free_object.new.metaslabs) (λ o. get nat_eq c.free_object.new.own.objects o) c.free_object.new.own.seq c.free_object.new.own.floor) (e.owns ∙ i.owns) e.whole;
       takes = λ other. f.takes other ∙ i.takes other;
-      waits = λ x knows.
-          (let one = i.waits x knows in
+      waits = λ x loose knows.
+          (let one = i.waits x loose knows in
           waits_more g.R.Rack g.A.Area g.M.Metaslabs.went g.M.Metaslabs.shared c.args.metaslabs.now c.loop.metaslabs c.free_object.new.metaslabs x
           (λ y. Knows g.R.Rack g.A.Area (g.M.Metaslabs.owns c.args.metaslabs.now) (g.M.Metaslabs.last c.loop.metaslabs) (λ o. get nat_eq c.loop.own.objects o) c.loop.own.seq c.loop.own.floor y) one
           (λ y. Knows g.R.Rack g.A.Area (g.M.Metaslabs.owns c.args.metaslabs.now) (g.M.Metaslabs.last c.free_object.new.metaslabs) (λ o. get nat_eq c.free_object.new.own.objects o) c.free_object.new.own.seq c.free_object.new.own.floor y)
           (step_own g.R.Rack g.A.Area g.M.Metaslabs.went g.M.Metaslabs.shared (g.M.Metaslabs.owns c.args.metaslabs.now) (g.M.Metaslabs.owns c.free_object.new.metaslabs) (g.M.Metaslabs.owns c.loop.metaslabs) i.owns (e.owns ∙ i.owns) (g.M.Metaslabs.last c.loop.metaslabs) (g.M.Metaslabs.last c.free_object.new.metaslabs) c.loop.metaslabs c.free_object.new.metaslabs
-          (λ o. get nat_eq c.loop.own.objects o) (λ o. get nat_eq c.free_object.new.own.objects o) c.loop.own.seq c.loop.own.floor c.free_object.new.own.seq c.free_object.new.own.floor Waits f.step
-          (record one.reached { store = one.store }) one.knows));
+          (λ o. get nat_eq c.loop.own.objects o) (λ o. get nat_eq c.free_object.new.own.objects o) c.loop.own.seq c.loop.own.floor c.free_object.new.own.seq c.free_object.new.own.floor (λ y. HasLoose y.store c.args.object) Waits f.step
+          (record one.reached { store = one.store }) (subst (λ (t : Store). HasLoose t c.args.object) (sym one.done.0) loose) one.knows));
     }
 
 pub returns-in-Some-free_object : goal.returns-in-Some-free_object
@@ -66,12 +68,12 @@ returns-in-Some-free_object g c =
           (subst (λ o. AllStay o (g.M.Metaslabs.last c.loop.metaslabs) (g.M.Metaslabs.last c.free_object.new.metaslabs)) i.owns e.stay);
       whole = subst (λ o. IsWholeBy g.R.Rack o (g.M.Metaslabs.last c.free_object.new.metaslabs) (λ o. get nat_eq c.free_object.new.own.objects o) c.free_object.new.own.seq c.free_object.new.own.floor) (e.owns ∙ i.owns) e.whole;
       takes = subst (λ (t : ℕ → Option Pointer). TriesTake c.args.object t (λ o. get nat_eq c.free_object.new.own.objects o) (Some r)) table f.takes;
-      step = λ x knows.
-          (let one = i.waits x knows in
+      step = λ x loose knows.
+          (let one = i.waits x loose knows in
           freed_own g.R.Rack g.A.Area g.M.Metaslabs.went g.M.Metaslabs.shared c.args.metaslabs.now c.loop.metaslabs c.free_object.new.metaslabs x
           (λ y. Knows g.R.Rack g.A.Area (g.M.Metaslabs.owns c.args.metaslabs.now) (g.M.Metaslabs.last c.loop.metaslabs) (λ o. get nat_eq c.loop.own.objects o) c.loop.own.seq c.loop.own.floor y)
           (λ y. Knows g.R.Rack g.A.Area (g.M.Metaslabs.owns c.args.metaslabs.now) (g.M.Metaslabs.last c.free_object.new.metaslabs) (λ o. get nat_eq c.free_object.new.own.objects o) c.free_object.new.own.seq c.free_object.new.own.floor y) one c.args.object r
           (step_own g.R.Rack g.A.Area g.M.Metaslabs.went g.M.Metaslabs.shared (g.M.Metaslabs.owns c.args.metaslabs.now) (g.M.Metaslabs.owns c.free_object.new.metaslabs) (g.M.Metaslabs.owns c.loop.metaslabs) i.owns (e.owns ∙ i.owns) (g.M.Metaslabs.last c.loop.metaslabs) (g.M.Metaslabs.last c.free_object.new.metaslabs) c.loop.metaslabs c.free_object.new.metaslabs
-          (λ o. get nat_eq c.loop.own.objects o) (λ o. get nat_eq c.free_object.new.own.objects o) c.loop.own.seq c.loop.own.floor c.free_object.new.own.seq c.free_object.new.own.floor (λ y. FreeDoes y c.args.object r) f.step
-          (record one.reached { store = one.store }) one.knows));
+          (λ o. get nat_eq c.loop.own.objects o) (λ o. get nat_eq c.free_object.new.own.objects o) c.loop.own.seq c.loop.own.floor c.free_object.new.own.seq c.free_object.new.own.floor (λ y. HasLoose y.store c.args.object) (λ y. FreeDoes y c.args.object r) f.step
+          (record one.reached { store = one.store }) (subst (λ (t : Store). HasLoose t c.args.object) (sym one.done.0) loose) one.knows));
     }

@@ -4,6 +4,7 @@ use Rattle.draid_session.specs.State.{State}
 use Rattle.draid_pool.specs.Threads.{AllStay, IsWholeBy, Knows, LeadsBy}
 use Rattle.draid_works.proofs.Waited.{Waits}
 use Rattle.draid_works.proofs.freeing.free_through.Given as goal
+use Rattle.draid_store.specs.Freeing.{HasLoose}
 
 abbrev pub invariant-loop : goal.invariant-loop
 invariant-loop g l = record {
@@ -13,6 +14,6 @@ invariant-loop g l = record {
   stay : AllStay (g.M.Metaslabs.owns l.initial.metaslabs) (g.M.Metaslabs.last l.initial.metaslabs) (g.M.Metaslabs.last l.metaslabs);
   whole : IsWholeBy g.R.Rack (g.M.Metaslabs.owns l.initial.metaslabs) (g.M.Metaslabs.last l.metaslabs) (λ o. get nat_eq l.own.objects o) l.own.seq l.own.floor;
   takes : (other : ℕ) → get nat_eq l.own.objects other ≡ get nat_eq l.initial.own.objects other;
-  waits : (x : State) → Knows g.R.Rack g.A.Area (g.M.Metaslabs.owns l.initial.metaslabs) (g.M.Metaslabs.last l.initial.metaslabs) (λ o. get nat_eq l.initial.own.objects o) l.initial.own.seq l.initial.own.floor x
+  waits : (x : State) → HasLoose x.store l.object → Knows g.R.Rack g.A.Area (g.M.Metaslabs.owns l.initial.metaslabs) (g.M.Metaslabs.last l.initial.metaslabs) (λ o. get nat_eq l.initial.own.objects o) l.initial.own.seq l.initial.own.floor x
       → LeadsBy g.R.Rack g.A.Area g.M.Metaslabs.went g.M.Metaslabs.shared l.initial.metaslabs l.metaslabs x (Waits x) (Knows g.R.Rack g.A.Area (g.M.Metaslabs.owns l.initial.metaslabs) (g.M.Metaslabs.last l.metaslabs) (λ o. get nat_eq l.own.objects o) l.own.seq l.own.floor);
 }

@@ -4,6 +4,8 @@ use Rattle.draid_pool.proofs.HeldBy.{stay_same, stay_then}
 use Rattle.draid_store.specs.Open.{KnowsEarlier}
 use Rattle.draid_works.proofs.Waited.{earlier_own, rest_freed, waits_more, waits_none}
 use Rattle.draid_works.proofs.writing.free_rest.Goals as goal
+use Rattle.draid_session.specs.State.{Store}
+use Rattle.draid_session.specs.Points.{KeepsBirth}
 
 pub loop-init : goal.loop-init
 loop-init g c = record {
@@ -13,7 +15,7 @@ loop-init g c = record {
   stay = stay_same (g.M.Metaslabs.owns c.args.metaslabs.now) (g.M.Metaslabs.last c.args.metaslabs.now);
   has = c.requires.has;
   whole = λ table seq w apart. w;
-  waits = λ table seq x we knows. waits_none g.R.Rack g.A.Area g.M.Metaslabs.went g.M.Metaslabs.shared c.args.metaslabs.now x (λ y. KnowsEarlier g.R.Rack g.A.Area (g.M.Metaslabs.owns c.args.metaslabs.now) (g.M.Metaslabs.last c.args.metaslabs.now) table seq c.args.floor c.args.pointer we y) knows;
+  waits = λ table seq x we loose knows. waits_none g.R.Rack g.A.Area g.M.Metaslabs.went g.M.Metaslabs.shared c.args.metaslabs.now x (λ y. KnowsEarlier g.R.Rack g.A.Area (g.M.Metaslabs.owns c.args.metaslabs.now) (g.M.Metaslabs.last c.args.metaslabs.now) table seq c.args.floor c.args.pointer we y) knows;
 }
 
 pub free_earlier-requires : goal.free_earlier-requires
@@ -40,13 +42,13 @@ loop-preserved g c =
       whole = λ table seq w apart.
           subst (λ o. IsWholeBy g.R.Rack o (g.M.Metaslabs.last c.free_earlier.new.metaslabs) table seq c.args.floor) i.owns
           (f.whole table seq (subst (λ o. IsWholeBy g.R.Rack o (g.M.Metaslabs.last c.loop.metaslabs) table seq c.args.floor) (sym i.owns) (i.whole table seq w apart)) apart);
-      waits = λ table seq x we knows.
-          (let one = i.waits table seq x we knows in
+      waits = λ table seq x we loose knows.
+          (let one = i.waits table seq x we loose knows in
           waits_more g.R.Rack g.A.Area g.M.Metaslabs.went g.M.Metaslabs.shared c.args.metaslabs.now c.loop.metaslabs c.free_earlier.new.metaslabs x
           (λ y. KnowsEarlier g.R.Rack g.A.Area (g.M.Metaslabs.owns c.args.metaslabs.now) (g.M.Metaslabs.last c.loop.metaslabs) table seq c.args.floor c.args.pointer we y) one
           (λ y. KnowsEarlier g.R.Rack g.A.Area (g.M.Metaslabs.owns c.args.metaslabs.now) (g.M.Metaslabs.last c.free_earlier.new.metaslabs) table seq c.args.floor c.args.pointer we y)
           (earlier_own g.R.Rack g.A.Area g.M.Metaslabs.went g.M.Metaslabs.shared (g.M.Metaslabs.owns c.args.metaslabs.now) (g.M.Metaslabs.owns c.free_earlier.new.metaslabs) (g.M.Metaslabs.owns c.loop.metaslabs) i.owns (e.owns ∙ i.owns) (g.M.Metaslabs.last c.loop.metaslabs) (g.M.Metaslabs.last c.free_earlier.new.metaslabs) c.loop.metaslabs c.free_earlier.new.metaslabs
-          c.args.pointer table seq c.args.floor we None (f.says table seq) (record one.reached { store = one.store }) one.knows));
+          c.args.pointer table seq c.args.floor we None (f.says table seq) (record one.reached { store = one.store }) (subst (λ (t : Store). KeepsBirth t.marks we.birth → ⊥) (sym one.done.0) loose) one.knows));
     }
 
 pub returns-in-Some-free_earlier : goal.returns-in-Some-free_earlier
@@ -64,11 +66,11 @@ returns-in-Some-free_earlier g c =
       whole = λ table seq w apart.
           subst (λ o. IsWholeBy g.R.Rack o (g.M.Metaslabs.last c.free_earlier.new.metaslabs) table seq group) i.owns
           (f.whole table seq (subst (λ o. IsWholeBy g.R.Rack o (g.M.Metaslabs.last c.loop.metaslabs) table seq c.args.floor) (sym i.owns) (i.whole table seq w apart)) apart);
-      says = λ table seq x we knows.
-          (let one = i.waits table seq x we knows in
+      says = λ table seq x we loose knows.
+          (let one = i.waits table seq x we loose knows in
           rest_freed g.R.Rack g.A.Area g.M.Metaslabs.went g.M.Metaslabs.shared c.args.metaslabs.now c.loop.metaslabs c.free_earlier.new.metaslabs x
           (λ y. KnowsEarlier g.R.Rack g.A.Area (g.M.Metaslabs.owns c.args.metaslabs.now) (g.M.Metaslabs.last c.loop.metaslabs) table seq c.args.floor c.args.pointer we y)
           (λ y. Knows g.R.Rack g.A.Area (g.M.Metaslabs.owns c.args.metaslabs.now) (g.M.Metaslabs.last c.free_earlier.new.metaslabs) table seq group y) one we c.args.floor group
           (earlier_own g.R.Rack g.A.Area g.M.Metaslabs.went g.M.Metaslabs.shared (g.M.Metaslabs.owns c.args.metaslabs.now) (g.M.Metaslabs.owns c.free_earlier.new.metaslabs) (g.M.Metaslabs.owns c.loop.metaslabs) i.owns (e.owns ∙ i.owns) (g.M.Metaslabs.last c.loop.metaslabs) (g.M.Metaslabs.last c.free_earlier.new.metaslabs) c.loop.metaslabs c.free_earlier.new.metaslabs
-          c.args.pointer table seq c.args.floor we (Some group) (f.says table seq) (record one.reached { store = one.store }) one.knows));
+          c.args.pointer table seq c.args.floor we (Some group) (f.says table seq) (record one.reached { store = one.store }) (subst (λ (t : Store). KeepsBirth t.marks we.birth → ⊥) (sym one.done.0) loose) one.knows));
     }

@@ -12,6 +12,7 @@ use Rattle.draid_store.specs.Storing.{ComesBack}
 use Rattle.draid_works.specs.Waiting.{FreesRest, LooksBut, StoresThrough}
 use Rattle.draid_works.proofs.Waited.{replaced}
 use Rattle.draid_works.proofs.writing.write_through.Goals as goal
+use Rattle.draid_session.specs.Points.{KeepsBirth}
 
 -- ---- there is no memory for the block
 
@@ -19,17 +20,17 @@ pub returns-in_default-clause-stay : goal.returns-in_default-clause-stay
 returns-in_default-clause-stay g c = stay_same (g.M.Metaslabs.owns c.args.metaslabs.now) (g.M.Metaslabs.last c.args.metaslabs.now)
 
 pub returns-in_default-clause-step : goal.returns-in_default-clause-step
-returns-in_default-clause-step g c x layout knows = record { holds = []; reached = x; store = x.store; follows = (refl, refl); done = ([], refl, (tt, refl)); knows = knows }
+returns-in_default-clause-step g c x layout none knows = record { holds = []; reached = x; store = x.store; follows = (refl, refl); done = ([], refl, (tt, refl)); knows = knows }
 
 -- ---- a whole write
 
 pub returns-in-Ok-None-clause-step : goal.returns-in-Ok-None-clause-step
-returns-in-Ok-None-clause-step g c x layout knows =
+returns-in-Ok-None-clause-step g c x layout none knows =
     let e = c.store_through.ensures in
-    let none : c.store_through.result ≡ Ok None = c.in-Ok-None.is ∙ ap Ok c.in-Ok-None.field-0-is in
-    subst (λ (r : Result (Option Pointer) WriteFault). StoresThrough g.R.Rack g.A.Area g.M.Metaslabs.went g.M.Metaslabs.shared (g.M.Metaslabs.owns c.args.metaslabs.now) (g.M.Metaslabs.last c.store_through.new.metaslabs) c.args.metaslabs.now c.store_through.new.metaslabs (FnReturnsAt g.F.Fn c.args.chooser.now) c.args.object c.args.bytes.now (λ o. get nat_eq c.store_through.new.own.objects o) c.store_through.new.own.seq c.store_through.new.own.floor x r) none
+    let is_none : c.store_through.result ≡ Ok None = c.in-Ok-None.is ∙ ap Ok c.in-Ok-None.field-0-is in
+    subst (λ (r : Result (Option Pointer) WriteFault). StoresThrough g.R.Rack g.A.Area g.M.Metaslabs.went g.M.Metaslabs.shared (g.M.Metaslabs.owns c.args.metaslabs.now) (g.M.Metaslabs.last c.store_through.new.metaslabs) c.args.metaslabs.now c.store_through.new.metaslabs (FnReturnsAt g.F.Fn c.args.chooser.now) c.args.object c.args.bytes.now (λ o. get nat_eq c.store_through.new.own.objects o) c.store_through.new.own.seq c.store_through.new.own.floor x r) is_none
     (subst (λ (w : List ℕ). StoresThrough g.R.Rack g.A.Area g.M.Metaslabs.went g.M.Metaslabs.shared (g.M.Metaslabs.owns c.args.metaslabs.now) (g.M.Metaslabs.last c.store_through.new.metaslabs) c.args.metaslabs.now c.store_through.new.metaslabs (FnReturnsAt g.F.Fn c.args.chooser.now) c.args.object w (λ o. get nat_eq c.store_through.new.own.objects o) c.store_through.new.own.seq c.store_through.new.own.floor x c.store_through.result) c.in-Ok.ensures.bytes
-    (e.step x layout knows))
+    (e.step x layout none knows))
 
 -- ---- its earlier block is freed behind it
 
@@ -59,24 +60,24 @@ returns-in-Ok-Some-clause-whole g c =
     (subst (λ o. IsWholeBy g.R.Rack o (g.M.Metaslabs.last c.store_through.new.metaslabs) (λ o. get nat_eq c.store_through.new.own.objects o) c.store_through.new.own.seq c.store_through.new.own.floor) (sym e.owns) e.whole) back.apart)
 
 pub returns-in-Ok-Some-clause-step : goal.returns-in-Ok-Some-clause-step
-returns-in-Ok-Some-clause-step g c x layout knows =
+returns-in-Ok-Some-clause-step g c x layout none knows =
     let e = c.store_through.ensures in
     let p = c.in-Ok-Some.earlier in
     let some : c.store_through.result ≡ Ok (Some p) = c.in-Ok-Some.is ∙ ap Ok c.in-Ok-Some.field-0-is in
     replaced g.R.Rack g.A.Area g.M.Metaslabs.went g.M.Metaslabs.shared (g.M.Metaslabs.owns c.args.metaslabs.now) (g.M.Metaslabs.last c.store_through.new.metaslabs) c.args.metaslabs.now c.store_through.new.metaslabs c.free_rest-own.new.metaslabs (FnReturnsAt g.F.Fn c.args.chooser.now) c.args.object c.args.bytes.now p
-    (λ o. get nat_eq c.store_through.new.own.objects o) c.store_through.new.own.seq c.store_through.new.own.floor c.free_rest-own.result x
+    (λ o. get nat_eq c.store_through.new.own.objects o) c.store_through.new.own.seq c.store_through.new.own.floor c.free_rest-own.result x none
     (λ y. Knows g.R.Rack g.A.Area (g.M.Metaslabs.owns c.args.metaslabs.now) (g.M.Metaslabs.last c.free_rest-own.new.metaslabs) (λ o. get nat_eq c.store_through.new.own.objects o) c.store_through.new.own.seq c.free_rest-own.result y)
     (subst (λ (r : Result (Option Pointer) WriteFault). StoresThrough g.R.Rack g.A.Area g.M.Metaslabs.went g.M.Metaslabs.shared (g.M.Metaslabs.owns c.args.metaslabs.now) (g.M.Metaslabs.last c.store_through.new.metaslabs) c.args.metaslabs.now c.store_through.new.metaslabs (FnReturnsAt g.F.Fn c.args.chooser.now) c.args.object c.args.bytes.now (λ o. get nat_eq c.store_through.new.own.objects o) c.store_through.new.own.seq c.store_through.new.own.floor x r) some
     (subst (λ (w : List ℕ). StoresThrough g.R.Rack g.A.Area g.M.Metaslabs.went g.M.Metaslabs.shared (g.M.Metaslabs.owns c.args.metaslabs.now) (g.M.Metaslabs.last c.store_through.new.metaslabs) c.args.metaslabs.now c.store_through.new.metaslabs (FnReturnsAt g.F.Fn c.args.chooser.now) c.args.object w (λ o. get nat_eq c.store_through.new.own.objects o) c.store_through.new.own.seq c.store_through.new.own.floor x c.store_through.result) c.in-Ok.ensures.bytes
-    (e.step x layout knows)))
-    (subst (λ o. (y : State) (we : Write) → KnowsEarlier g.R.Rack g.A.Area o (g.M.Metaslabs.last c.store_through.new.metaslabs) (λ o. get nat_eq c.store_through.new.own.objects o) c.store_through.new.own.seq c.store_through.new.own.floor p we y
+    (e.step x layout none knows)))
+    (subst (λ o. (y : State) (we : Write) → (KeepsBirth y.store.marks we.birth → ⊥) → KnowsEarlier g.R.Rack g.A.Area o (g.M.Metaslabs.last c.store_through.new.metaslabs) (λ o. get nat_eq c.store_through.new.own.objects o) c.store_through.new.own.seq c.store_through.new.own.floor p we y
     → CarriesBy g.R.Rack g.A.Area g.M.Metaslabs.went g.M.Metaslabs.shared o (g.M.Metaslabs.last c.free_rest-own.new.metaslabs) (λ o. get nat_eq c.store_through.new.own.objects o) c.store_through.new.own.seq c.free_rest-own.result c.store_through.new.metaslabs c.free_rest-own.new.metaslabs y (LooksBut (FreesRest y we c.store_through.new.own.floor c.free_rest-own.result))) e.owns
     (c.free_rest-own.ensures.says (λ o. get nat_eq c.store_through.new.own.objects o) c.store_through.new.own.seq))
 
 -- ---- it was refused
 
 pub returns-clause-step : goal.returns-clause-step
-returns-clause-step g c x layout knows =
+returns-clause-step g c x layout none knows =
     subst (λ (r : Result (Option Pointer) WriteFault). StoresThrough g.R.Rack g.A.Area g.M.Metaslabs.went g.M.Metaslabs.shared (g.M.Metaslabs.owns c.args.metaslabs.now) (g.M.Metaslabs.last c.store_through.new.metaslabs) c.args.metaslabs.now c.store_through.new.metaslabs (FnReturnsAt g.F.Fn c.args.chooser.now) c.args.object c.args.bytes.now (λ o. get nat_eq c.store_through.new.own.objects o) c.store_through.new.own.seq c.store_through.new.own.floor x r) c.in-Err.is
     (subst (λ (w : List ℕ). StoresThrough g.R.Rack g.A.Area g.M.Metaslabs.went g.M.Metaslabs.shared (g.M.Metaslabs.owns c.args.metaslabs.now) (g.M.Metaslabs.last c.store_through.new.metaslabs) c.args.metaslabs.now c.store_through.new.metaslabs (FnReturnsAt g.F.Fn c.args.chooser.now) c.args.object w (λ o. get nat_eq c.store_through.new.own.objects o) c.store_through.new.own.seq c.store_through.new.own.floor x c.store_through.result) c.in-Ok.ensures.bytes
-    (c.store_through.ensures.step x layout knows))
+    (c.store_through.ensures.step x layout none knows))

@@ -9,7 +9,7 @@ pub returns : goal.returns
 returns g c =
     let e = c.govern_under.ensures in
     record {
-      step = record { same = refl; is = subst (λ ls. IsUberOf g.R.Rack g.A.Area ls c.govern_under.new.uber c.govern_under.new.groups) (e.turns ∙ sym c.requires.1) e.uber; count = e.later };
+      step = record { same = refl; is = subst (λ ls. IsUberOf g.R.Rack g.A.Area ls c.govern_under.new.uber c.govern_under.new.groups) (e.turns ∙ sym c.requires.1) e.uber; count = e.later; point = e.point };
       turns = e.turns;
       owns = e.owns;
       lane = e.lane;

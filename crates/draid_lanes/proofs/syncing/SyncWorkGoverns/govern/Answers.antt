@@ -46,5 +46,6 @@ returns g c =
       layout = through_layout g.R.Rack g.A.Area lane_last went true owns is.own c.args.count old new u v came is.ready is.beyond e.syncs;
       keeps = λ some no inside. through_whole g.R.Rack g.A.Area lane_last went true owns is.own c.args.count old new u v came is.ready is.beyond e.syncs some inside is.some no;
       later = through_later g.R.Rack g.A.Area lane_last went true owns c.args.count old new u v came e.syncs;
+      point = arms.1.point;
       related = subst (λ n. SyncsThrough g.R.Rack g.A.Area lane_last went true owns n old u came new v) is.all e.syncs;
     }

@@ -52,5 +52,6 @@ returns g c =
       layout = mended_layout g.R.Rack g.A.Area lane_last went true owns is.own work.geometry work.kind work.limit came old new u v is.ready is.beyond e.mends;
       keeps = λ some no inside. mended_whole g.R.Rack g.A.Area lane_last went true owns is.own work.geometry work.kind work.limit came old new u v is.ready is.beyond e.mends is.some some inside no;
       later = mended_later g.R.Rack g.A.Area lane_last went true owns work.geometry work.kind work.limit came old new u v e.mends;
+      point = arms.1.point;
       related = (e.mends, e.within);
     }

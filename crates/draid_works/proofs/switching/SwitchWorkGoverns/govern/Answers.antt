@@ -59,6 +59,7 @@ returns g c =
       layout = switched_layout g.R.Rack g.A.Area lane_last went true owns is.own c.args.count is.some leaf offline old new u v came is.ready is.beyond e.switches;
       keeps = λ some no inside. switched_whole g.R.Rack g.A.Area lane_last went true owns is.own c.args.count is.some leaf offline old new u v came is.ready is.beyond e.switches some inside no;
       later = switched_later g.R.Rack g.A.Area lane_last went true owns c.args.count leaf offline old new u v came e.switches;
+      point = arms.1.point;
       related = (
         subst (λ n. SwitchesThrough g.R.Rack g.A.Area lane_last went true owns n leaf offline old u came new v) is.all e.switches,
         subst (λ n. LeafIsIn n leaf offline came (lane_last new)) is.all e.leaf,
