@@ -19,7 +19,7 @@ use Rattle.draid_exits.specs.Status.{code_of, last_text}
 use Rattle.draid_exits.specs.declared.status.Status.{Status}
 use Rattle.draid_exits.specs.declared.status.Status.TheVariants.{Done, Usage, Line, SourceFault, SinkFault, NoMemory, TooLong, ShelfFault, Record}
 use Rattle.draid_run.proofs.Booked.{bare_keeps}
-use Rattle.draid_run.proofs.Known.{appends_none}
+use Rattle.draid_print.proofs.Appending.{appends_none}
 use Rattle.draid_program.specs.Program.{EndsBy, EndsByBook, EndsByRun, NamesFolder}
 
 -- a run over a shelf without a pool begins with a blank book

@@ -7,7 +7,7 @@ use Rattle.std.proofs.lemmas.List.{append_assoc, append-nil, map_push}
 use Rattle.draid_script.specs.declared.line.Line.{Line}
 use Rattle.draid_works.specs.declared.job.LaneCommands.{LaneCommands}
 use Rattle.draid_program.specs.Jobs.{AreJobsOf, IsJobOf, told_of}
-use Rattle.draid_run.specs.declared.sections.LaneReplies.{LaneReplies}
+use Rattle.draid_print.specs.declared.printing.LaneReplies.{LaneReplies}
 
 pub none_left : {X : Type 0} (xs : List X) → length xs ≡ 0 → xs ≡ []
 none_left [] e = refl

@@ -1,5 +1,5 @@
 -- What the jobs of a section's lanes are given.
-use Rattle.std.proofs.Common.{◌≡◌, ◌∙◌, ◌∷◌, ◌≤◌, inl, inr, arith, ℕ, zero, suc, Bool, true, List, [], Option, Some, length, refl, sym, ap, subst}
+use Rattle.std.proofs.Common.{◌≡◌, ◌∙◌, ◌∷◌, ◌≤◌, inl, inr, arith, ℕ, zero, suc, Bool, true, List, [], Option, Some, length, refl, sym, ap, subst, None}
 use Rattle.std.specs.Prelude.{slice_get, vec_capacity}
 use Rattle.std.specs.Borrow.{Bor}
 use Rattle.std.specs.Fn.{FnReturnsAt, Shared}
@@ -26,13 +26,14 @@ use Rattle.draid_lanes.specs.declared.lane.Lane.{Lane}
 use Rattle.draid_tables.specs.Lists.{AreAllInRange, ListsEach, Wants, commands_of}
 use Rattle.draid_tables.proofs.Listing.{get_map, present}
 use Rattle.draid_section.specs.Running.{KeepLanes}
-use Rattle.draid_section.specs.Section.{MayRunAll}
+use Rattle.draid_section.specs.Section.{MayRunAll, BeginsLane}
 use Rattle.draid_works.specs.Job.{DoesCommands, MayAllBeGiven, MayBeGiven, MayDoCommands}
 use Rattle.draid_works.specs.Job as works
 use Rattle.draid_works.specs.declared.job.LaneCommands.{LaneCommands}
 use Rattle.draid_program.specs.Jobs.{AreJobsOf, IsJobOf}
 use Rattle.draid_clashes.specs.Lanes.{lanes_in}
 use Rattle.draid_run.specs.Sections.{IsOfLane, MayRunLanes}
+use Rattle.draid_uber.specs.Uber.{point_of}
 
 pub all_at : {X : Type 0} (P : X → Type 0) (xs : List X) (i : ℕ) (x : X) → AllOf P xs → slice_get xs i ≡ Some x → P x
 all_at P [] i x all there = absurd (cc)
@@ -73,7 +74,7 @@ module _ (lanes : Vec (Vec Line Global) Global) (may : MayRunLanes (lanes_in lan
           range = is.1;
         }
 
-    module _ {R A F : Type 0} (rack : racks.Ghosts R) (area : areas.Ghosts A) (closure : Shared F (Bor (List Room) × Unit {0}) (Option ℕ)) (sync : Type 0) (is_sync : sync) (pool : Pool R A) (whole : IsWhole rack area pool) (chooser : F) (chooser_is : IsChooser closure chooser)
+    module _ {R A F : Type 0} (rack : racks.Ghosts R) (area : areas.Ghosts A) (closure : Shared F (Bor (List Room) × Unit {0}) (Option ℕ)) (sync : Type 0) (is_sync : sync) (pool : Pool R A) (whole : IsWhole rack area pool) (unpointed : (point_of pool.uber).group ≡ None) (chooser : F) (chooser_is : IsChooser closure chooser)
         (jobs : Vec (LaneCommands F) Global) (are : AreJobsOf chooser lanes.items jobs.items) where
       -- the lines of a job
       pub job_of : (i : ℕ) (job : LaneCommands F) → slice_get jobs.items i ≡ Some job → (lines : Vec Line Global) × (slice_get lanes.items i ≡ Some lines) × IsJobOf chooser lines job
@@ -86,8 +87,8 @@ module _ (lanes : Vec (Vec Line Global) Global) (may : MayRunLanes (lanes_in lan
         abbrev pub Needs : LaneCommands F → Lane R A G W → Type 0
         Needs job lane = sync × MayDoCommands rack area closure job.chooser.now job.lines.items job.replies lane
 
-        pub may_all : MayRunAll {R = R} {A = A} {G = G} {W = W} rack area Needs pool numbers jobs.items
-        may_all i job lane begins =
+        needed : (i : ℕ) (job : LaneCommands F) (lane : Lane R A G W) → BeginsLane rack area pool numbers jobs.items i job lane → Needs job lane
+        needed i job lane begins =
             let z = job_of i job begins.job_is in
             let is = z.2 in (
               is_sync,
@@ -100,6 +101,9 @@ module _ (lanes : Vec (Vec Line Global) Global) (may : MayRunLanes (lanes_in lan
                 room = subst (λ (ls : Vec Line Global). length ls.items ≤ vec_capacity job.replies) (sym is.lines_are) is.room;
               },
             )
+
+        pub may_all : MayRunAll {R = R} {A = A} {G = G} {W = W} rack area Needs pool numbers jobs.items
+        may_all = record { unpointed = unpointed; each = needed }
 
         abbrev pub Does : LaneCommands F → Lane R A G W → LaneCommands F → Lane R A G W → Type 0
         Does job old done new = DoesCommands rack area (choices_by (FnReturnsAt closure job.chooser.now)) job.lines old done.lines done.replies.items done.stopped new

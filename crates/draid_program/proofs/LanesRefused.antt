@@ -7,8 +7,7 @@ use Rattle.draid_pool.specs.declared.pool.Pool.{Pool}
 use Rattle.draid_pool.proofs.Keeping.{each_same}
 use Rattle.draid_pool.proofs.Rises.{records_still}
 use Rattle.draid_uber.specs.Uber.{count_of}
-use Rattle.draid_section.specs.Section as section
-use Rattle.draid_run.specs.Sections.{SamePool}
+use Rattle.draid_pool.specs.Keeping.{SamePool}
 
 pub of_ok : {T E : Type 0} (P : T → Type 0) (r : Result T E) (x : T) → r ≡ Ok x → IfOk r P → P x
 of_ok P r x is holds = subst (λ z. IfOk z P) is holds
@@ -16,13 +15,9 @@ of_ok P r x is holds = subst (λ z. IfOk z P) is holds
 pub of_err : {T E : Type 0} (P : E → Type 0) (r : Result T E) (x : E) → r ≡ Err x → IfErr r P → P x
 of_err P r x is holds = subst (λ z. IfErr z P) is holds
 
-module _ {R A : Type 0} (old new : Pool R A) (same : section.SamePool old new) where
-  pub same_pool : SamePool old new
-  same_pool = record { geometry = same.geometry; metaslabs = same.metaslabs; uber = same.uber; objects = same.objects; seq = same.seq; floor = same.floor }
-
-  pub areas_same : (faults : A → ℕ) → AreasLater faults old new
-  areas_same faults = record {
-    uber = (let is = ap (count_of faults) same.uber in omega (arith, is));
-    many = ap (λ ss. length ss) same.metaslabs;
-    shards = (each_same (sealing.AreasLater faults) (records_still faults) old new same.metaslabs).each;
-  }
+pub areas_same : {R A : Type 0} (old new : Pool R A) → SamePool old new → (faults : A → ℕ) → AreasLater faults old new
+areas_same old new same faults = record {
+  uber = (let is = ap (count_of faults) same.uber in omega (arith, is));
+  many = ap (λ ss. length ss) same.metaslabs;
+  shards = (each_same (sealing.AreasLater faults) (records_still faults) old new same.metaslabs).each;
+}

@@ -1,5 +1,5 @@
 -- What lanes that ran in threads come to, by what their jobs replied.
-use Rattle.std.proofs.Common.{◌≡◌, ◌∙◌, ◌∷◌, arith, ℕ, suc, Bool, true, false, List, [], Option, Some, length, map, refl, sym, ap, subst}
+use Rattle.std.proofs.Common.{◌≡◌, ◌∙◌, ◌∷◌, arith, ℕ, suc, Bool, true, false, List, [], Option, Some, length, map, refl, sym, ap, subst, None}
 use Rattle.std.specs.Prelude.{slice_get}
 use Rattle.std.specs.Borrow.{Bor}
 use Rattle.std.specs.Fn.{FnReturnsAt, Shared}
@@ -47,9 +47,11 @@ use Rattle.draid_works.proofs.LaneTeaches.{all_taught}
 use Rattle.draid_works.proofs.LaneTells.{commands_lead}
 use Rattle.draid_program.specs.Jobs.{AreJobsOf, IsJobOf, told_of}
 use Rattle.draid_clashes.specs.Lanes.{commands_in, lanes_in}
-use Rattle.draid_run.specs.Sections.{IsStopped, LanesTeach, MayRunLanes, RunsSection, StopWhere, StopsWhere, replies_in}
-use Rattle.draid_run.specs.declared.sections.LaneReplies.{LaneReplies}
+use Rattle.draid_run.specs.Sections.{IsStopped, LanesTeach, MayRunLanes, RunsSection, StopWhere, StopsWhere}
+use Rattle.draid_print.specs.Printing.{replies_in}
+use Rattle.draid_print.specs.declared.printing.LaneReplies.{LaneReplies}
 use Rattle.draid_program.proofs.LanesGiven.{Does, Needs, job_of, keeps, may_all}
+use Rattle.draid_uber.specs.Uber.{point_of}
 
 -- ---- lists
 
@@ -102,23 +104,23 @@ module _ {F : Type 0} where
 -- ---- lanes that ran
 
 module _ {R A F : Type 0} (rack : racks.Ghosts R) (area : areas.Ghosts A) (closure : Shared F (Bor (List Room) × Unit {0}) (Option ℕ)) (sync : Type 0) (is_sync : sync) (lanes : Vec (Vec Line Global) Global) (may : MayRunLanes (lanes_in lanes.items)) (numbers : List (Vec Span Global)) (al : AreLaneLists numbers)
-    (each : ListsEach lanes.items numbers) (pool : Pool R A) (whole : IsWhole rack area pool) (chooser : F) (chooser_is : IsChooser closure chooser) (jobs : Vec (LaneCommands F) Global) (are : AreJobsOf chooser lanes.items jobs.items) (new : Pool R A) (new_whole : IsWhole rack area new) (done : Vec (LaneCommands F) Global) where
+    (each : ListsEach lanes.items numbers) (pool : Pool R A) (whole : IsWhole rack area pool) (unpointed : (point_of pool.uber).group ≡ None) (chooser : F) (chooser_is : IsChooser closure chooser) (jobs : Vec (LaneCommands F) Global) (are : AreJobsOf chooser lanes.items jobs.items) (new : Pool R A) (new_whole : IsWhole rack area new) (done : Vec (LaneCommands F) Global) where
   abbrev choices : Choices
   choices = choices_by (FnReturnsAt closure chooser)
 
   module _ {G W : Type 0} where
     abbrev Need : LaneCommands F → Lane R A G W → Type 0
-    Need job lane = Needs lanes may numbers each rack area closure sync is_sync pool whole chooser chooser_is jobs are job lane
+    Need job lane = Needs lanes may numbers each rack area closure sync is_sync pool whole unpointed chooser chooser_is jobs are job lane
 
     abbrev Do : LaneCommands F → Lane R A G W → LaneCommands F → Lane R A G W → Type 0
-    Do job old end next = Does lanes may numbers each rack area closure sync is_sync pool whole chooser chooser_is jobs are job old end next
+    Do job old end next = Does lanes may numbers each rack area closure sync is_sync pool whole unpointed chooser chooser_is jobs are job old end next
 
     module _ (d : RunsInLanes rack area Do pool numbers jobs new done) where
       many : length numbers ≡ length jobs.items
       many = each.many ∙ sym are.many
 
       were : WereDone Do jobs.items done.items
-      were = were_done rack area Need Do pool whole numbers al jobs (may_all lanes may numbers each rack area closure sync is_sync pool whole chooser chooser_is jobs are) (keeps lanes may numbers each rack area closure sync is_sync pool whole chooser chooser_is jobs are) d.locks d.firsts d.locked d.groups
+      were = were_done rack area Need Do pool whole numbers al jobs (may_all lanes may numbers each rack area closure sync is_sync pool whole unpointed chooser chooser_is jobs are) (keeps lanes may numbers each rack area closure sync is_sync pool whole unpointed chooser chooser_is jobs are) d.locks d.firsts d.locked d.groups
           d.alone d.owns d.dealt new.uber new.metaslabs.shards.items d.owns' done d.ran many
 
       pub as_many : length done.items ≡ length lanes.items
@@ -166,14 +168,14 @@ module _ {R A F : Type 0} (rack : racks.Ghosts R) (area : areas.Ghosts A) (closu
       Rests job = HasScrub job.lines.items
 
       tell : (x : State) → length x.metaslabs ≡ x.geometry.props.metaslabs → JobsTell rack area (Tells x) Rests Do x
-      tell x many_x job lane end next did y stands =
+      tell x many_x job lane end next did y stands none =
           leads_as rack area x lane next _ _
           (λ holds store l. ((λ rests same. subst (λ (c : F). Says x (choices_by (FnReturnsAt closure c)) (commands_of_job job) y.store holds (replies_of_job end) store) same (l.0 rests)), l.1))
-          (commands_lead rack area x (choices_by (FnReturnsAt closure job.chooser.now)) many_x job.lines.items end.replies.items end.stopped lane next did.whole_before did.given did.done y stands)
+          (commands_lead rack area x (choices_by (FnReturnsAt closure job.chooser.now)) many_x job.lines.items end.replies.items end.stopped lane next did.whole_before did.given did.done y stands none)
 
       stood : (x : State) → Represents rack area pool x → SectionStood rack area (Tells x) x jobs.items done.items new
       stood x r =
-          section_stood rack area Need Do pool whole numbers al jobs (may_all lanes may numbers each rack area closure sync is_sync pool whole chooser chooser_is jobs are) (keeps lanes may numbers each rack area closure sync is_sync pool whole chooser chooser_is jobs are) d.locks d.firsts d.locked d.groups d.alone
+          section_stood rack area Need Do pool whole numbers al jobs (may_all lanes may numbers each rack area closure sync is_sync pool whole unpointed chooser chooser_is jobs are) (keeps lanes may numbers each rack area closure sync is_sync pool whole unpointed chooser chooser_is jobs are) d.locks d.firsts d.locked d.groups d.alone
           d.owns d.dealt new.uber new.metaslabs.shards.items d.owns' done d.ran x r (Tells x) Rests (tell x r.stands.many) many new d.geometry refl refl d.takes new_whole
 
       pub runs : (x : State) → Represents rack area pool x → RunsSection rack area choices x (lanes_in lanes.items) (replies_in (map told_of done.items)) new
@@ -185,7 +187,7 @@ module _ {R A F : Type 0} (rack : racks.Ghosts R) (area : areas.Ghosts A) (closu
             reached = s.reached;
             section = subst (λ (cs : List (List Command)). Section x choices cs (replies_in (map told_of done.items)) s.reached) one (subst (λ (rs : List (List Reply)). Section x choices (map commands_of_job jobs.items) rs s.reached) two
                 (section_is x choices (Tells x) commands_of_job replies_of_job rack area jobs.items done.items new
-                (λ i job end old holds store there said. said (job_of lanes may numbers each rack area closure sync is_sync pool whole chooser chooser_is jobs are i job there).2.chooser_is)
+                (λ i job end old holds store there said. said (job_of lanes may numbers each rack area closure sync is_sync pool whole unpointed chooser chooser_is jobs are i job there).2.chooser_is)
                 (subst NoClash (sym one) may.apart) s));
             represents = s.represents;
           }
@@ -198,7 +200,7 @@ module _ {R A F : Type 0} (rack : racks.Ghosts R) (area : areas.Ghosts A) (closu
 
       pub teaches : (known : Known) → KnowsPointers pool known → LanesTeach (lanes_in lanes.items) (replies_in (map told_of done.items)) known new
       teaches known knows =
-          let t = section_taught rack area Need Do pool whole numbers al jobs (may_all lanes may numbers each rack area closure sync is_sync pool whole chooser chooser_is jobs are) (keeps lanes may numbers each rack area closure sync is_sync pool whole chooser chooser_is jobs are) d.locks d.firsts d.locked d.groups d.alone
+          let t = section_taught rack area Need Do pool whole numbers al jobs (may_all lanes may numbers each rack area closure sync is_sync pool whole unpointed chooser chooser_is jobs are) (keeps lanes may numbers each rack area closure sync is_sync pool whole unpointed chooser chooser_is jobs are) d.locks d.firsts d.locked d.groups d.alone
           d.owns d.dealt new.uber new.metaslabs.shards.items d.owns' done d.ran many LearnsJob teach new d.takes known knows in
           let one = same_commands chooser lanes.items jobs.items are.many are.each in
           let two = same_replies done.items in

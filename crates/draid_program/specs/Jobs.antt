@@ -4,7 +4,7 @@ use Rattle.std.specs.declared.vec.Vec.{Vec}
 use Rattle.std.specs.declared.alloc.Global.{Global}
 use Rattle.draid_script.specs.declared.line.Line.{Line}
 use Rattle.draid_works.specs.declared.job.LaneCommands.{LaneCommands}
-use Rattle.draid_run.specs.declared.sections.LaneReplies.{LaneReplies}
+use Rattle.draid_print.specs.declared.printing.LaneReplies.{LaneReplies}
 
 module _ {F : Type 0} where
   -- a job has a lane's lines, none of which was done, and room for the replies to them

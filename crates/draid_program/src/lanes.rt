@@ -1,7 +1,8 @@
 //! The lanes of a section run in threads, each metaslab under a lock of its own.
-ghost use Rattle.std.specs.Prelude.{◌≡◌, ◌≤◌, [], IfErr, IfOk, length, map, vec_capacity};
+ghost use Rattle.std.specs.Prelude.{◌≡◌, ◌≤◌, [], None, IfErr, IfOk, length, map, vec_capacity};
 ghost use Rattle.std.specs.Fn.{FnReturnsAt};
 ghost use Rattle.draid_choose.specs.Rooms.{IsChooser};
+ghost use Rattle.draid_uber.specs.Uber.{point_of};
 ghost use Rattle.draid_session.specs.Choices.{choices_by};
 ghost use Rattle.draid_session.specs.Known.{Known};
 ghost use Rattle.draid_session.specs.State.{State};
@@ -10,7 +11,9 @@ ghost use Rattle.draid_pool.specs.Knows.{KnowsPointers};
 ghost use Rattle.draid_pool.specs.Pools.{Represents};
 ghost use Rattle.draid_pool.specs.Whole.{IsWhole};
 ghost use Rattle.draid_clashes.specs.Lanes.{lanes_in};
-ghost use Rattle.draid_run.specs.Sections.{IsStopped, LanesTeach, MayRunLanes, RunsSection, SamePool, StopWhere, replies_in};
+ghost use Rattle.draid_pool.specs.Keeping.{SamePool};
+ghost use Rattle.draid_run.specs.Sections.{IsStopped, LanesTeach, MayRunLanes, RunsSection, StopWhere};
+ghost use Rattle.draid_print.specs.Printing.{replies_in};
 ghost use Rattle.draid_program.specs.Jobs.{AreJobsOf, told_of};
 
 use draid_area::Area;
@@ -64,7 +67,7 @@ fn replies_of<F: Fn(&[Room]) -> Option<u32>>(
     ran
 }
 
-/// Runs the lanes of a section in threads, each metaslab under a lock of its own.
+/// Runs the lanes of a section in threads over a pool without a checkpoint, each metaslab under a lock of its own.
 pub(crate) fn run_lanes<
     R: Rack + Send,
     A: Area + Send,
@@ -80,6 +83,7 @@ pub(crate) fn run_lanes<
     requires chooser { IsChooser F.Fn chooser.now }
     requires whole { IsWhole R.Rack A.Area pool }
     requires lanes { MayRunLanes (lanes_in lanes.items) }
+    requires point { (point_of pool.uber).group ≡ None }
     ensures whole { IsWhole R.Rack A.Area result.0 }
     ensures refused { IfErr result.1 (λ _. SamePool pool result.0) }
     ensures stops { IfOk result.1 (λ ran. StopWhere (lanes_in lanes.items) ran.items) }

@@ -1,5 +1,5 @@
 //! Runs of the program: a session in memory or in a folder, or a workload in memory.
-ghost use Rattle.std.specs.Prelude.{◌≡◌, ◌⊎◌, ℕ, List, Vec, IfErr, IfOk, Err, false, map, string_bytes};
+ghost use Rattle.std.specs.Prelude.{◌≡◌, ◌⊎◌, ℕ, List, Vec, IfErr, IfOk, None, Err, false, map, string_bytes};
 ghost use Rattle.std.specs.Fn.{FnReturnsAt};
 ghost use Rattle.std.specs.Io.KnownBytes.{IsAtEnd};
 ghost use Rattle.std.specs.Process.{exit_status};
@@ -9,6 +9,7 @@ ghost use Rattle.draid_faults.specs.declared.crash.CrashRule.{CrashRule};
 ghost use Rattle.draid_files.specs.Folders.{path_of};
 ghost use Rattle.draid_shelf.specs.Failing.{is_planned, lists_of, no_lists, rule_of};
 ghost use Rattle.draid_shelf.specs.Memory.{HoldsNothing};
+ghost use Rattle.draid_uber.specs.Uber.{point_of};
 ghost use Rattle.draid_session.specs.Choices.{choices_by, choices_with};
 ghost use Rattle.draid_pool.specs.Shelves.{on_shelf};
 ghost use Rattle.draid_pool.specs.Whole.{IsWhole};
@@ -86,6 +87,7 @@ fn run_on<
             requires chooser { IsChooser F.Fn chooser.now }
             requires whole { IsWhole H.R.Rack H.A.Area pool }
             requires lanes { MayRunLanes (lanes_in lanes.items) }
+            requires point { (point_of pool.uber).group ≡ None }
             ensures { SectionMet H.R.Rack H.A.Area (choices_by (FnReturnsAt F.Fn chooser.entry.now)) (lanes_in lanes.items) pool result.0 result.1 }
         { run_lanes(rt, alloc, pool, chooser, lanes) },
     };

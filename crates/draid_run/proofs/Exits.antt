@@ -23,7 +23,8 @@ use Rattle.draid_pool.specs.declared.pool.Pool.{Pool}
 use Rattle.draid_run.specs.Crashes.{LeavesFirm, LeavesFirmAt}
 use Rattle.draid_run.specs.Desks.{Noted, Turned}
 use Rattle.draid_run.specs.Lines.{IsNoOpening}
-use Rattle.draid_run.specs.Serve.{AnswerIs, LineIs, Placed, PrintIs, opened_by, status_of}
+use Rattle.draid_run.specs.Serve.{AnswerIs, LineIs, Placed, opened_by, status_of}
+use Rattle.draid_print.specs.Printing.{PrintIs}
 use Rattle.draid_run.specs.Shelves.{MayFind}
 use Rattle.draid_run.specs.Script.{IsBuilt, LineFaultIs}
 use Rattle.draid_pool.specs.Shelves.{OnShelf}
@@ -32,7 +33,7 @@ use Rattle.draid_run.specs.declared.answer.Stop.TheVariants as stop
 use Rattle.draid_exits.specs.declared.status.LineRefusal.{LineRefusal}
 use Rattle.draid_exits.specs.declared.status.LineRefusal.TheVariants as refusal
 use Rattle.draid_exits.specs.declared.status.Status.{Status}
-use Rattle.draid_run.proofs.Known.{appends_none}
+use Rattle.draid_print.proofs.Appending.{appends_none}
 use Rattle.draid_exits.specs.declared.status.Status.TheVariants.{Done, Usage, Line, SourceFault, SinkFault, NoMemory, TooLong, ShelfFault, Record}
 
 -- nothing failed since

@@ -5,16 +5,7 @@ use Rattle.std.specs.Io.KnownBytes.{Appends}
 use Rattle.std.proofs.lemmas.List.{append-nil}
 use Rattle.draid_lines.specs.Lines.{WhereKnown}
 use Rattle.draid_lines.specs.Sink.{AppendsFront}
-
-pub appends_none : (old : Option (List ℕ)) → Appends old old []
-appends_none None = tt
-appends_none (Some xs) = sym (append-nil xs)
-
-pub appends_more : (old mid new : Option (List ℕ)) (xs ys : List ℕ) → Appends old mid xs → Appends mid new ys → Appends old new (xs ++ ys)
-appends_more None mid new xs ys a b = tt
-appends_more (Some o) None new xs ys a b = absurd a
-appends_more (Some o) (Some m) None xs ys a b = absurd b
-appends_more (Some o) (Some m) (Some n) xs ys a b = b ∙ ap (λ zs. zs ++ ys) a ∙ append_assoc o xs ys
+use Rattle.draid_print.proofs.Appending.{appends_more}
 
 -- some front of the further bytes was added
 pub front_more : (old mid new : Option (List ℕ)) (xs ys : List ℕ) → Appends old mid xs → AppendsFront mid new ys → AppendsFront old new (xs ++ ys)

@@ -7,7 +7,7 @@ use Rattle.draid_run.specs.Script.{EndsWithLine, Prints}
 use Rattle.draid_exits.specs.Status.{HasNumber, last_text}
 use Rattle.draid_exits.specs.declared.status.Status.{Status}
 use Rattle.draid_exits.specs.declared.status.Status.TheVariants.{Done, Usage, Line, SourceFault, SinkFault, NoMemory, TooLong, ShelfFault, Record}
-use Rattle.draid_run.proofs.Known.{appends_none}
+use Rattle.draid_print.proofs.Appending.{appends_none}
 
 module _ (line : List ℕ) (old new : Option (List ℕ)) where
   -- all of a line was put

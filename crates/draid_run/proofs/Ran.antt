@@ -8,7 +8,7 @@ use Rattle.draid_area.specs.declared.Area as areas
 use Rattle.draid_script.specs.Line.{Command}
 use Rattle.draid_script.specs.declared.name.CommandName.TheVariants as name
 use Rattle.draid_reply.specs.declared.reply.Reply.{Reply}
-use Rattle.draid_reply.specs.declared.reply.Reply.TheVariants.{NoPool}
+use Rattle.draid_reply.specs.declared.reply.Reply.TheVariants.{LanesCheckpoint, NoPool}
 use Rattle.draid_objects.specs.Marks.{check_by}
 use Rattle.draid_session.specs.Choices.{Choices}
 use Rattle.draid_session.specs.Known.{Known}
@@ -20,7 +20,7 @@ use Rattle.draid_session.specs.Session.{Desk, Untouched, Bare, Made, Open, Shut,
 use Rattle.draid_session.specs.State.{State}
 use Rattle.draid_pool.specs.Failing as failing
 use Rattle.draid_pool.specs.Knows.{FitsKnown, KnowsPointers}
-use Rattle.draid_pool.specs.Objects.{PointsTo}
+use Rattle.draid_pool.specs.Objects.{PointsTo, blocks_of}
 use Rattle.draid_pool.specs.Pointers.{pointer_in}
 use Rattle.draid_pool.specs.Pools.{Represents}
 use Rattle.draid_pool.specs.Shelves.{OnShelf}
@@ -28,12 +28,17 @@ use Rattle.draid_pool.specs.Ubers.{IsUber}
 use Rattle.draid_pool.specs.Whole.{IsWhole}
 use Rattle.draid_pool.specs.declared.pool.Pool.{Pool}
 use Rattle.draid_objects.specs.Changes.{write_of}
-use Rattle.draid_uber.specs.Uber.{count_of}
+use Rattle.draid_uber.specs.Uber.{count_of, point_of}
 use Rattle.draid_run.specs.Desks.{IsDesk, IsPool, IsShelf}
-use Rattle.draid_run.specs.Sections.{IsStopped, LanesTeach, RunsSection, SamePool, SectionIs, StopWhere, StopsWhere, place_of, replies_in}
+use Rattle.draid_pool.specs.Keeping.{SamePool}
+use Rattle.draid_run.specs.Sections.{IsStopped, LanesTeach, RunsSection, SectionIs, StopWhere, StopsWhere, place_of}
+use Rattle.draid_print.specs.Printing.{replies_in}
 use Rattle.draid_run.specs.Shelves.{AreaRose, PoolFails}
-use Rattle.draid_run.specs.declared.sections.LaneReplies.{LaneReplies}
+use Rattle.draid_print.specs.declared.printing.LaneReplies.{LaneReplies}
 use Rattle.draid_run.proofs.Risen.{rose_some}
+use Rattle.draid_session.specs.Points.{HasPoint, IsPointOf}
+use Rattle.draid_pool.proofs.Points.{none_stands, point_stands}
+use Rattle.draid_machine.proofs.Small.{none_some}
 
 -- ---- lanes that were stopped
 
@@ -188,19 +193,46 @@ module _ {R A : Type 0} (rack : racks.Ghosts R) (area : areas.Ghosts A) (choices
         stopped = λ e. absurd (cc e);
       }
 
-  unchecked : (x : State) (pool : Pool R A) → Represents rack area pool x → check_by x.store.marks ≡ None
-  unchecked x pool is = ap check_by is.stands.holds.unmarked
+  unchecked : (x : State) (pool : Pool R A) → (point_of pool.uber).group ≡ None → Represents rack area pool x → check_by x.store.marks ≡ None
+  unchecked x pool none is = none_stands area pool.uber x (blocks_of x.metaslabs) is.stands.pieces is.stands.uber is.stands.holds is.stands.groups none
+
+  pointed : (x : State) (pool : Pool R A) (group : ℕ) → (point_of pool.uber).group ≡ Some group → Represents rack area pool x → HasPoint x.store.marks group
+  pointed x pool group some is = subst (IsPointOf x.store.marks) some (point_stands area pool.uber x (blocks_of x.metaslabs) is.stands.pieces is.stands.uber is.stands.holds is.stands.groups)
+
+  -- a checkpoint stands: the pool is as it was
+  pub section_pointed : (x : Desk) (old new : Option (Pool R A)) (was : Pool R A) (group : ℕ) → old ≡ Some was → new ≡ Some was → (point_of was.uber).group ≡ Some group
+      → IsDesk rack area entry now old x → SectionIs rack area choices lanes entry now x new (Err LanesCheckpoint)
+  section_pointed x old new was group there then some desk = by x (subst (λ p. IsPool rack area p x) there desk.stands) desk.shelf
+    where
+      by : (x : Desk) → IsPool rack area (Some was) x → IsShelf x entry now → SectionIs rack area choices lanes entry now x new (Err LanesCheckpoint)
+      by (Open y) stands shelf = record {
+        new = Open y;
+        desk = record { stands = subst (λ p. IsPool rack area p (Open y)) (sym then) stands; shelf = shelf };
+        turns = inl (λ none. (let has = pointed y was group some stands.1 in none_some (check_by y.store.marks) has.0 none has.1), (refl, refl, refl));
+        stopped = λ e. absurd (cc e);
+      }
+      by (Foreign known) stands shelf = record {
+        new = Foreign known;
+        desk = record { stands = subst (λ p. IsPool rack area p (Foreign known)) (sym then) stands; shelf = shelf };
+        turns = inl (refl, refl, refl);
+        stopped = λ e. absurd (cc e);
+      }
+      by Untouched stands shelf = absurd stands
+      by Bare stands shelf = absurd stands
+      by (Made told failed geometry) stands shelf = absurd stands
+      by (Shut crash y) stands shelf = absurd stands
+      by Unknown stands shelf = absurd stands
 
   -- refused, or memory was wanting: the pool is as it was
-  pub section_refused : (x : Desk) (old new : Option (Pool R A)) (was is : Pool R A) → old ≡ Some was → new ≡ Some is → SamePool was is → IsWhole rack area is → (reply : Reply) → RefusesSection lanes reply
+  pub section_refused : (x : Desk) (old new : Option (Pool R A)) (was is : Pool R A) → old ≡ Some was → new ≡ Some is → SamePool was is → IsWhole rack area is → (point_of was.uber).group ≡ None → (reply : Reply) → RefusesSection lanes reply
       → IsDesk rack area entry now old x → SectionIs rack area choices lanes entry now x new (Err reply)
-  section_refused x old new was is there then same whole reply refuses desk = by x (subst (λ p. IsPool rack area p x) there desk.stands) desk.shelf
+  section_refused x old new was is there then same whole none reply refuses desk = by x (subst (λ p. IsPool rack area p x) there desk.stands) desk.shelf
     where
       by : (x : Desk) → IsPool rack area (Some was) x → IsShelf x entry now → SectionIs rack area choices lanes entry now x new (Err reply)
       by (Open y) stands shelf = record {
         new = Open y;
         desk = record { stands = subst (λ p. IsPool rack area p (Open y)) (sym then) (whole, same_stands rack area was is same y stands.1); shelf = shelf };
-        turns = inr (unchecked y was stands.1, inl (reply, refl, refuses, refl, refl));
+        turns = inr (unchecked y was none stands.1, inl (reply, refl, refuses, refl, refl));
         stopped = λ e. absurd (cc e);
       }
       by (Foreign known) stands shelf = record {
@@ -216,10 +248,10 @@ module _ {R A : Type 0} (rack : racks.Ghosts R) (area : areas.Ghosts A) (choices
       by Unknown stands shelf = absurd stands
 
   -- its lanes ran
-  pub section_ran : (x : Desk) (old new : Option (Pool R A)) (was is : Pool R A) (ran : Vec LaneReplies Global) → old ≡ Some was → new ≡ Some is → IsWhole rack area is → NoClash lanes → (ClashesMend lanes → ⊥) → StopWhere lanes ran.items
+  pub section_ran : (x : Desk) (old new : Option (Pool R A)) (was is : Pool R A) (ran : Vec LaneReplies Global) → old ≡ Some was → new ≡ Some is → IsWhole rack area is → (point_of was.uber).group ≡ None → NoClash lanes → (ClashesMend lanes → ⊥) → StopWhere lanes ran.items
       → ((y : State) → Represents rack area was y → RunsSection rack area choices y lanes (replies_in ran.items) is) → ((known : Known) → KnowsPointers was known → LanesTeach lanes (replies_in ran.items) known is)
       → (IsStopped ran.items → failing.AreaRose area.faults was is) → IsDesk rack area entry now old x → SectionIs rack area choices lanes entry now x new (Ok ran)
-  section_ran x old new was is ran there then whole apart one stops runs teach cause desk = by x (subst (λ p. IsPool rack area p x) there desk.stands) desk.shelf
+  section_ran x old new was is ran there then whole none apart one stops runs teach cause desk = by x (subst (λ p. IsPool rack area p x) there desk.stands) desk.shelf
     where
       by : (x : Desk) → IsPool rack area (Some was) x → IsShelf x entry now → SectionIs rack area choices lanes entry now x new (Ok ran)
       by (Open y) stands shelf =
@@ -227,7 +259,7 @@ module _ {R A : Type 0} (rack : racks.Ghosts R) (area : areas.Ghosts A) (choices
           record {
             new = Open it.reached;
             desk = record { stands = subst (λ p. IsPool rack area p (Open it.reached)) (sym then) (whole, it.represents); shelf = record { told = sym it.section.together.rest.told ∙ shelf.told } };
-            turns = inr (unchecked y was stands.1, inr (replies_in ran.items, refl, apart, one, behind_ran lanes ran stops, (it.reached, it.section, refl)));
+            turns = inr (unchecked y was none stands.1, inr (replies_in ran.items, refl, apart, one, behind_ran lanes ran stops, (it.reached, it.section, refl)));
             stopped = λ e. rose_states rack area was is y it.reached stands.1 it.represents (cause (ended_stopped ran e));
           }
       by (Foreign known) stands shelf =

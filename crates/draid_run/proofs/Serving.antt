@@ -20,7 +20,8 @@ use Rattle.draid_pool.specs.declared.pool.Pool.{Pool}
 use Rattle.draid_exits.specs.declared.status.RecordName.{RecordName}
 use Rattle.draid_run.specs.Crashes.{IsFirmShut, LeavesFirmAt, crash_came_last}
 use Rattle.draid_run.specs.Desks.{IsDesk}
-use Rattle.draid_run.specs.Script.{AreBuilt, IsBuilt, all_said, BreaksOff, Ends, EndsSection, FaultyShut, GetsReplies, LastStep, LineFaultIs, MayEndAt, Shows, said_text, texts_of}
+use Rattle.draid_run.specs.Script.{AreBuilt, IsBuilt, all_said, BreaksOff, Ends, EndsSection, FaultyShut, GetsReplies, LastStep, LineFaultIs, MayEndAt, Shows}
+use Rattle.draid_print.specs.Printing.{said_text, texts_of}
 use Rattle.draid_run.specs.Serve.{BrokenLine, Cut, LaneStopped, LineIs, Placed, Printed, Served, Serving, TextIs, Untold, end_at}
 use Rattle.draid_pool.specs.Shelves.{OnShelf}
 use Rattle.draid_run.specs.Shelves.{FaultIn, HasFailed, HasFault, HoldsDesk, HoldsFault, MakesLeavesAt, MakesLeavesBy, IsClosed, MayFind, RackFault, TellsAsBefore}
@@ -31,7 +32,8 @@ use Rattle.draid_exits.specs.declared.status.Status.{Status}
 use Rattle.draid_exits.specs.declared.status.Status.TheVariants.{Done, Usage, Line, SourceFault, SinkFault, NoMemory, TooLong, ShelfFault, Record}
 use Rattle.draid_run.proofs.Crashing.{firm_more}
 use Rattle.draid_run.proofs.Exits.{rose_from}
-use Rattle.draid_run.proofs.Known.{appends_more, appends_none, known_input, known_on}
+use Rattle.draid_run.proofs.Known.{known_input, known_on}
+use Rattle.draid_print.proofs.Appending.{appends_more, appends_none}
 use Rattle.draid_run.proofs.Places.{after_more, ended_inside, goes_on, last_more, on_more}
 use Rattle.draid_run.proofs.Risen.{area_shows, cause_fault, fails_shut, faulty_shut}
 use Rattle.draid_run.proofs.Runs.{desk_agrees}

@@ -34,15 +34,16 @@ use Rattle.draid_run.specs.Desks.{IsDesk, asked_in}
 use Rattle.draid_run.specs.Script.{IsBuilt, MayEndAt}
 use Rattle.draid_clashes.specs.Lanes.{lanes_in}
 use Rattle.draid_run.specs.Sections.{AreLanes, IsOfLane, RanIs, SectionIs, place_in, place_next, place_of, saids_of}
-use Rattle.draid_run.specs.Serve.{LineIs, Placed, Printed, PrintIs, done_of, opened_by}
+use Rattle.draid_run.specs.Serve.{LineIs, Placed, Printed, done_of, opened_by}
+use Rattle.draid_print.specs.Printing.{PrintIs}
 use Rattle.draid_run.specs.Shelves.{MayFind}
-use Rattle.draid_run.specs.declared.sections.LaneReplies.{LaneReplies}
+use Rattle.draid_print.specs.declared.printing.LaneReplies.{LaneReplies}
 use Rattle.draid_exits.specs.declared.status.Status.{Status}
 use Rattle.draid_exits.specs.declared.status.Status.TheVariants as status_is
 use Rattle.draid_exits.specs.declared.status.Status.TheVariants.{Done, Usage, SourceFault, SinkFault, NoMemory, TooLong, ShelfFault, Record}
 use Rattle.draid_run.proofs.Deciding.{with_spare}
 use Rattle.draid_run.proofs.Exits.{printed_alone}
-use Rattle.draid_run.proofs.Known.{appends_none}
+use Rattle.draid_print.proofs.Appending.{appends_none}
 use Rattle.draid_run.proofs.Lining.{lanes_many}
 
 -- ---- the lines of a section
@@ -270,6 +271,7 @@ module _ (room : List Room → Option ℕ → Type 0) (spare : ℕ → ℕ → L
   section_with : (commands : List (List Command)) (replies : List (List Reply)) (new : State) → AllOf (AllOf IsForLanes) commands → Section x By commands replies new → Section x With commands replies new
   section_with commands replies new plain s = record {
     lanes = map lane_with s.lanes;
+    unpointed = s.unpointed;
     apart = s.apart;
     ran = ran_with s.lanes commands replies plain s.ran;
     together = subst (λ holds. Together holds x new) (sym (holds_with s.lanes)) s.together;

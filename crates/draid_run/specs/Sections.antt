@@ -24,19 +24,20 @@ use Rattle.draid_session.specs.Sections.{ClashesMend, LanesLearn, NoClash, Secti
 use Rattle.draid_session.specs.Session.{Desk}
 use Rattle.draid_session.specs.State.{State}
 use Rattle.draid_pool.specs.Failing.{AreaRose, AreasLater}
+use Rattle.draid_pool.specs.Keeping.{SamePool}
 use Rattle.draid_pool.specs.Knows.{KnowsPointers}
-use Rattle.draid_pool.specs.Pointers.{SamePointers}
 use Rattle.draid_pool.specs.Pools.{Represents}
 use Rattle.draid_pool.specs.Whole.{IsWhole}
 use Rattle.draid_pool.specs.declared.pool.Pool.{Pool}
 use Rattle.draid_pool.specs.Shelves.{OnShelf}
 use Rattle.draid_clashes.specs.Lanes.{lanes_in}
 use Rattle.draid_run.specs.Desks.{IsDesk}
-use Rattle.draid_run.specs.Script.{said_text, texts_of}
+use Rattle.draid_print.specs.Printing.{PrintsAre, replies_in, texts_of}
 use Rattle.draid_run.specs.Serve.{LaneStopped}
-use Rattle.draid_run.specs.declared.sections.LaneReplies.{LaneReplies}
+use Rattle.draid_print.specs.declared.printing.LaneReplies.{LaneReplies}
 use Rattle.draid_exits.specs.declared.status.Status.{Status}
 use Rattle.draid_exits.specs.declared.status.Status.TheVariants.{SinkFault, NoMemory, ShelfFault}
+use Rattle.draid_uber.specs.Uber.{point_of}
 
 -- ---- lanes
 
@@ -53,10 +54,6 @@ pub record MayRunLanes (lanes : List (List Command)) : Type 0 where
   pub one_mends : ClashesMend lanes → ⊥
 
 -- ---- what is replied
-
--- each lane's replies
-abbrev pub replies_in : List LaneReplies → List (List Reply)
-replies_in ran = map (λ (lane : LaneReplies). lane.replies.items) ran
 
 -- A lane has a reply to each of its commands, or fewer where an area stopped it.
 abbrev pub StopsWhere : Bool → List Command → List Reply → Type 0
@@ -76,15 +73,6 @@ IsStopped ran = AllOf (λ (lane : LaneReplies). lane.stopped ≡ false) ran → 
 -- ---- what is done
 
 module _ {R A : Type 0} where
-  -- a pool is as it was: its objects have the pointers that they had
-  pub record SamePool (old new : Pool R A) : Type 0 where
-    pub geometry : new.geometry ≡ old.geometry
-    pub metaslabs : new.metaslabs.shards.items ≡ old.metaslabs.shards.items
-    pub uber : new.uber ≡ old.uber
-    pub objects : SamePointers old new
-    pub seq : new.own.seq ≡ old.own.seq
-    pub floor : new.own.floor ≡ old.own.floor
-
   -- A section of a state led to another, for which the pool stands.
   pub record RunsSection (rack : racks.Ghosts R) (area : areas.Ghosts A) (choices : Choices) (x : State) (lanes : List (List Command)) (replies : List (List Reply)) (new : Pool R A) : Type 0 where
     pub reached : State
@@ -109,10 +97,10 @@ module _ {R A : Type 0} (rack : racks.Ghosts R) (area : areas.Ghosts A) where
     pub cause : IfOk result (λ ran. IsStopped ran.items → AreaRose area.faults pool new)
     pub later : AreasLater area.faults pool new
 
-  -- A closure that runs the lanes of each section which may be run, over each whole pool. Blocks go to metaslabs by these choices.
+  -- A closure that runs the lanes of each section which may be run, over each whole pool without a checkpoint. Blocks go to metaslabs by these choices.
   pub record RunsSections {S : Type 0} (g : Shared S (Pool R A × (Vec (Vec Line Global) Global × Unit {0})) (Pool R A × Result (Vec LaneReplies Global) WantsMemory)) (chosen : List Room → Option ℕ → Type 0) (f : S) : Type 0 where
-    pub callable : (pool : Pool R A) (lanes : Vec (Vec Line Global) Global) → IsWhole rack area pool → MayRunLanes (lanes_in lanes.items) → g.pre f (pool, (lanes, tt))
-    pub meets : (pool new : Pool R A) (lanes : Vec (Vec Line Global) Global) (result : Result (Vec LaneReplies Global) WantsMemory) → IsWhole rack area pool → MayRunLanes (lanes_in lanes.items) → g.post f (pool, (lanes, tt)) (new, result)
+    pub callable : (pool : Pool R A) (lanes : Vec (Vec Line Global) Global) → IsWhole rack area pool → MayRunLanes (lanes_in lanes.items) → (point_of pool.uber).group ≡ None → g.pre f (pool, (lanes, tt))
+    pub meets : (pool new : Pool R A) (lanes : Vec (Vec Line Global) Global) (result : Result (Vec LaneReplies Global) WantsMemory) → IsWhole rack area pool → MayRunLanes (lanes_in lanes.items) → (point_of pool.uber).group ≡ None → g.post f (pool, (lanes, tt)) (new, result)
         → SectionMet (choices_by chosen) (lanes_in lanes.items) pool new result
 
 -- ---- the lanes of a section that is read
@@ -156,13 +144,6 @@ pub record SectionIs {R A : Type 0} (rack : racks.Ghosts R) (area : areas.Ghosts
   pub stopped : place_of result ≡ Ended → LaneStopped area pool old new
 
 -- ---- what is printed
-
--- What became of the texts of some replies: all were printed; or the sink failed at one, or memory was wanting for it, behind those before.
-abbrev pub PrintsAre : List Said → Option (List ℕ) → Option (List ℕ) → Result Unit Status → Type 0
-PrintsAre saids old new (Ok done) = Appends old new (texts_of saids)
-PrintsAre saids old new (Err SinkFault) = (part : List Said) × (said : Said) × (rest : List Said) × (mid : Option (List ℕ)) × (saids ≡ part ++ said ∷ rest) × Appends old mid (texts_of part) × AppendsFront mid new (said_text said)
-PrintsAre saids old new (Err NoMemory) = (part : List Said) × (said : Said) × (rest : List Said) × (saids ≡ part ++ said ∷ rest) × Appends old new (texts_of part)
-PrintsAre saids old new (Err status) = ⊥
 
 -- of those of a section's lanes: behind all of them the run goes on, or ends where a lane was stopped
 abbrev pub RanIs : List LaneReplies → Option (List ℕ) → Option (List ℕ) → Result Unit Status → Type 0

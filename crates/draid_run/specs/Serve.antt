@@ -25,7 +25,8 @@ use Rattle.draid_pool.specs.declared.pool.Pool.{Pool}
 use Rattle.draid_exits.specs.declared.status.RecordName.{RecordName}
 use Rattle.draid_run.specs.Crashes.{IsFirmShut, LeavesFirm, LeavesFirmAt, crash_came_last}
 use Rattle.draid_run.specs.Desks.{Broken, IsDesk, Noted, PoolBroke, PoolDid, Turned, asked_in}
-use Rattle.draid_run.specs.Script.{AreBuilt, IsBuilt, all_replies, all_said, BreaksOff, Ends, EndsSection, FailsShut, FaultyShut, GetsReplies, IsUnbuilt, LineFaultIs, MayEndAt, Shows, said_text, texts_of}
+use Rattle.draid_run.specs.Script.{AreBuilt, IsBuilt, all_replies, all_said, BreaksOff, Ends, EndsSection, FailsShut, FaultyShut, GetsReplies, IsUnbuilt, LineFaultIs, MayEndAt, Shows}
+use Rattle.draid_print.specs.Printing.{said_text, texts_of}
 use Rattle.draid_pool.specs.Shelves.{OnShelf}
 use Rattle.draid_run.specs.Shelves.{AreaRose, HasFault, HoldsFault, IsClosed, MakesLeavesAt, MayFind, PoolFails, RackFault}
 use Rattle.draid_run.specs.declared.answer.Stop.{Stop}
@@ -45,13 +46,6 @@ TextIs lines lines' left left' (Err NoMemory) = WhereKnown (prepend_known lines.
 TextIs lines lines' left left' (Err (TooLong line)) =
     (line ≡ lines.given + 1) × WhereKnown (prepend_known lines.held left) (prepend_known lines'.held left') (λ old new. IsTooLong lines.given old)
 TextIs lines lines' left left' (Err status) = ⊥
-
--- what became of the text of a reply
-abbrev pub PrintIs : List ℕ → Option (List ℕ) → Option (List ℕ) → Result Unit Status → Type 0
-PrintIs text old new (Ok done) = Appends old new text
-PrintIs text old new (Err SinkFault) = AppendsFront old new text
-PrintIs text old new (Err NoMemory) = new ≡ old
-PrintIs text old new (Err status) = ⊥
 
 -- The shelf failed in a line, or a record had a fault.
 pub record BrokenLine {R A : Type 0} (rack : racks.Ghosts R) (area : areas.Ghosts A) (why : Cause) (text : List ℕ) (entry before : OnShelf) (old : Desk) (now : OnShelf) (pool : Option (Pool R A)) : Type 0 where

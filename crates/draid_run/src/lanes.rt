@@ -1,30 +1,26 @@
 //! A section: its lines are kept as they are read, and at its end its lanes run.
-ghost use Rattle.std.specs.Prelude.{◌≡◌, ◌<◌, ◌≤◌, [], IfNone, IfOk, IfSome, Some, Err, length, replicate};
+ghost use Rattle.std.specs.Prelude.{◌≡◌, ◌<◌, [], IfNone, IfOk, IfSome, length, replicate};
 ghost use Rattle.std.specs.Fn.{FnReturnsAt};
-ghost use Rattle.draid_names.specs.Faults.{Rose};
 ghost use Rattle.draid_script.specs.Line.{command_in};
 ghost use Rattle.draid_session.specs.Choices.{choices_by};
-ghost use Rattle.draid_session.specs.Sections.{ClashesMend, NoClash, RefusesSection, to_lane, to_lanes};
+ghost use Rattle.draid_session.specs.Sections.{ClashesMend, NoClash, RefusesSection};
 ghost use Rattle.draid_session.specs.Places.{with_command};
 ghost use Rattle.draid_session.specs.Session.{Desk};
 ghost use Rattle.draid_pool.specs.Shelves.{OnShelf};
 ghost use Rattle.draid_run.specs.Desks.{IsDesk, IsPool};
-ghost use Rattle.draid_run.specs.Script.{said_text};
-ghost use Rattle.draid_run.specs.Serve.{PrintIs};
 ghost use Rattle.draid_clashes.specs.Lanes.{lanes_in};
-ghost use Rattle.draid_run.specs.Sections.{AreLanes, PrintsAre, SectionIs, replies_in};
+ghost use Rattle.draid_run.specs.Sections.{AreLanes, SectionIs};
 
 use crate::answer::no_pool;
-use crate::sections::{LaneReplies, Sections};
+use crate::sections::Sections;
 use draid_area::Area;
 use draid_choose::Chooser;
 use draid_clashes::{least_clash, two_mend};
-use draid_exits::Status;
-use draid_lines::Sink;
-use draid_names::{Failed, NoMemory, Room};
+use draid_names::{NoMemory, Room};
 use draid_pool::Pool;
+use draid_print::LaneReplies;
 use draid_rack::Rack;
-use draid_reply::{Reply, reply_text};
+use draid_reply::Reply;
 use draid_script::{CommandName, Line};
 use std::alloc::Global;
 
@@ -69,7 +65,8 @@ fn refusal(alloc: Global, lanes: &[Vec<Line>]) -> Option<Reply>
     None
 }
 
-/// Runs the lanes of a section on the pool that is open, if one is and they may be run. Else there is one reply.
+/// Runs the lanes of a section on the pool that is open, if one is, no checkpoint stands and they may be run. Else there is one
+/// reply.
 pub(crate) fn run_lanes<R: Rack, A: Area, F: Fn(&[Room]) -> Option<u32>, G: Sections<R, A>>(
     alloc: Global,
     sections: &G,
@@ -86,6 +83,10 @@ pub(crate) fn run_lanes<R: Rack, A: Area, F: Fn(&[Room]) -> Option<u32>, G: Sect
     let Some(open) = pool.take() else {
         return Err(no_pool(CommandName::Lanes));
     };
+    if let Some(_) = open.uber.point().group() {
+        *pool = Some(open);
+        return Err(Reply::LanesCheckpoint);
+    }
     if let Some(reply) = refusal(alloc, &lanes) {
         *pool = Some(open);
         return Err(reply);
@@ -98,67 +99,4 @@ pub(crate) fn run_lanes<R: Rack, A: Area, F: Fn(&[Room]) -> Option<u32>, G: Sect
             command: CommandName::Lanes,
         }),
     }
-}
-
-/// The text of a reply to a lane of this number.
-fn lane_text(alloc: Global, lane: u64, reply: &Reply) -> Result<Vec<u8>, NoMemory>
-    ensures { IfOk result (λ text. text.items ≡ said_text (record { lane = Some lane; reply = reply.now })) }
-{
-    let mut text = format!(in alloc; "{lane} ")?.into_bytes();
-    text.extend_from_slice(&reply_text(alloc, reply)?)?;
-    Ok(text)
-}
-
-/// Prints a reply to a lane, as one `put`.
-fn print_said<K: Sink>(alloc: Global, sink: &mut K, lane: u64, reply: &Reply) -> Result<(), Status>
-    ensures prints { PrintIs (said_text (record { lane = Some lane; reply = reply.now })) (K.held sink.old) (K.held sink.new) result }
-    ensures later { K.faults sink.old ≤ K.faults sink.new }
-    ensures cause { result ≡ Err Status.SinkFault → Rose (K.faults sink.old) (K.faults sink.new) }
-{
-    let Ok(text) = lane_text(alloc, lane, reply) else {
-        return Err(Status::NoMemory);
-    };
-    match sink.put(&text) {
-        Ok(()) => Ok(()),
-        Err(Failed) => Err(Status::SinkFault),
-    }
-}
-
-/// Prints the replies to one lane.
-fn print_lane<K: Sink>(
-    alloc: Global,
-    sink: &mut K,
-    lane: u64,
-    replies: &[Reply],
-) -> Result<(), Status>
-    ensures prints { PrintsAre (to_lane lane replies.now) (K.held sink.old) (K.held sink.new) result }
-    ensures later { K.faults sink.old ≤ K.faults sink.new }
-    ensures cause { result ≡ Err Status.SinkFault → Rose (K.faults sink.old) (K.faults sink.new) }
-{
-    for k in 0..replies.len() {
-        match print_said(alloc, sink, lane, &replies[k]) {
-            Ok(()) => {}
-            Err(status) => return Err(status),
-        }
-    }
-    Ok(())
-}
-
-/// Prints the replies to all lanes, one lane after another.
-pub(crate) fn print_lanes<K: Sink>(
-    alloc: Global,
-    sink: &mut K,
-    ran: &[LaneReplies],
-) -> Result<(), Status>
-    ensures prints { PrintsAre (to_lanes 0 (replies_in ran.now)) (K.held sink.old) (K.held sink.new) result }
-    ensures later { K.faults sink.old ≤ K.faults sink.new }
-    ensures cause { result ≡ Err Status.SinkFault → Rose (K.faults sink.old) (K.faults sink.new) }
-{
-    for k in 0..ran.len() {
-        match print_lane(alloc, sink, k as u64, &ran[k].replies) {
-            Ok(()) => {}
-            Err(status) => return Err(status),
-        }
-    }
-    Ok(())
 }

@@ -22,6 +22,7 @@ mod workloads;
 
 pub use books::runs_keep_the_book;
 pub use draid_exits::{LineRefusal, RecordName, Status};
+pub use draid_print::LaneReplies;
 pub use failures::runs_without_failures_end_well;
 pub use kept::known_objects_are_read;
 pub use laws::{
@@ -29,6 +30,6 @@ pub use laws::{
     runs_stay_legal, undisturbed_runs_are_done,
 };
 pub use origins::{known_pools_have_a_book, new_shelves_keep_the_book, told_pools_are_reached};
-pub use sections::{LaneReplies, NoSections, Sections, SectionsBy};
+pub use sections::{NoSections, Sections, SectionsBy};
 pub use top::{end_run, run};
 pub use turns::{each_line_is_a_turn, runs_are_sessions, runs_without_sections_stay_outside};

@@ -3,24 +3,17 @@ use draid_area::Area;
 use draid_choose::Chooser;
 use draid_names::{NoMemory, Room};
 use draid_pool::Pool;
+use draid_print::LaneReplies;
 use draid_rack::Rack;
 use draid_reply::Reply;
 use draid_script::Line;
 
-/// What a lane replied.
-#[derive(Drop)]
-pub struct LaneReplies {
-    /// A reply to each of its lines, up to one in which an area failed.
-    pub replies: Vec<Reply>,
-    /// Whether an area failed behind these.
-    pub stopped: bool,
-}
-
-/// Who runs the lanes of a section over a pool.
+/// Who runs the lanes of a section over a pool without a checkpoint.
 pub trait Sections<R: Rack, A: Area> {
-    ghost use Rattle.std.specs.Prelude.{ℕ, List, Option};
+    ghost use Rattle.std.specs.Prelude.{◌≡◌, ℕ, List, None, Option};
     ghost use Rattle.std.specs.Fn.{FnReturnsAt};
     ghost use Rattle.draid_names.specs.declared.room.Room.{Room as RoomOf};
+    ghost use Rattle.draid_uber.specs.Uber.{point_of};
     ghost use Rattle.draid_session.specs.Choices.{choices_by};
     ghost use Rattle.draid_pool.specs.Whole.{IsWhole};
     ghost use Rattle.draid_clashes.specs.Lanes.{lanes_in};
@@ -40,6 +33,7 @@ pub trait Sections<R: Rack, A: Area> {
         requires ready { ready self.now (FnReturnsAt F.Fn chooser.now) }
         requires whole { IsWhole R.Rack A.Area pool }
         requires lanes { MayRunLanes (lanes_in lanes.items) }
+        requires point { (point_of pool.uber).group ≡ None }
         ensures { SectionMet R.Rack A.Area (choices_by (FnReturnsAt F.Fn chooser.now)) (lanes_in lanes.items) pool result.0 result.1 };
 }
 
@@ -54,7 +48,9 @@ impl<
     A: Area,
     S: Fn(Pool<R, A>, Vec<Vec<Line>>) -> (Pool<R, A>, Result<Vec<LaneReplies>, NoMemory>),
 > Sections<R, A> for SectionsBy<S> {
+    ghost use Rattle.std.specs.Prelude.{◌≡◌, None};
     ghost use Rattle.std.specs.Fn.{FnReturnsAt};
+    ghost use Rattle.draid_uber.specs.Uber.{point_of};
     ghost use Rattle.draid_session.specs.Choices.{choices_by};
     ghost use Rattle.draid_pool.specs.Whole.{IsWhole};
     ghost use Rattle.draid_clashes.specs.Lanes.{lanes_in};
@@ -71,6 +67,7 @@ impl<
         requires ready { RunsSections R.Rack A.Area S.Fn (FnReturnsAt F.Fn _chooser.now) self.now.run }
         requires whole { IsWhole R.Rack A.Area pool }
         requires lanes { MayRunLanes (lanes_in lanes.items) }
+        requires point { (point_of pool.uber).group ≡ None }
         ensures { SectionMet R.Rack A.Area (choices_by (FnReturnsAt F.Fn _chooser.now)) (lanes_in lanes.items) pool result.0 result.1 }
     {
         (self.run)(pool, lanes)
@@ -81,8 +78,9 @@ impl<
 pub struct NoSections;
 
 impl<R: Rack, A: Area> Sections<R, A> for NoSections {
-    ghost use Rattle.std.specs.Prelude.{⊤};
+    ghost use Rattle.std.specs.Prelude.{◌≡◌, ⊤, None};
     ghost use Rattle.std.specs.Fn.{FnReturnsAt};
+    ghost use Rattle.draid_uber.specs.Uber.{point_of};
     ghost use Rattle.draid_session.specs.Choices.{choices_by};
     ghost use Rattle.draid_pool.specs.Whole.{IsWhole};
     ghost use Rattle.draid_clashes.specs.Lanes.{lanes_in};
@@ -99,6 +97,7 @@ impl<R: Rack, A: Area> Sections<R, A> for NoSections {
         requires ready { ⊤ }
         requires whole { IsWhole R.Rack A.Area pool }
         requires lanes { MayRunLanes (lanes_in lanes.items) }
+        requires point { (point_of pool.uber).group ≡ None }
         ensures { SectionMet R.Rack A.Area (choices_by (FnReturnsAt F.Fn chooser.now)) (lanes_in lanes.items) pool result.0 result.1 }
     {
         (pool, Err(NoMemory))

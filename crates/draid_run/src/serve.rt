@@ -8,29 +8,28 @@ ghost use Rattle.draid_names.specs.Faults.{Rose};
 ghost use Rattle.draid_names.specs.declared.journal.Entry.{Entry};
 ghost use Rattle.draid_script.specs.Grammar.{lane_of, line_of};
 ghost use Rattle.draid_script.specs.Line.{IsInRange, SectionEnd, command_in, most_lanes};
-ghost use Rattle.draid_reply.specs.Reply.{text_of};
 ghost use Rattle.draid_session.specs.Choices.{choices_by, choices_with};
 ghost use Rattle.draid_session.specs.Places.{Inside, Outside, opened_lanes};
 ghost use Rattle.draid_session.specs.Session.{Desk};
 ghost use Rattle.draid_run.specs.Desks.{IsDesk, IsPool};
 ghost use Rattle.draid_clashes.specs.Lanes.{lanes_in};
 ghost use Rattle.draid_run.specs.Sections.{AreLanes, IsReading, RanIs, place_in, place_next};
-ghost use Rattle.draid_run.specs.Serve.{LineIs, PrintIs, Served, TextIs, done_of, end_at, opened_by, status_of, unread_at};
+ghost use Rattle.draid_run.specs.Serve.{LineIs, Served, TextIs, done_of, end_at, opened_by, status_of, unread_at};
 ghost use Rattle.draid_pool.specs.Shelves.{OnShelf, on_shelf};
 ghost use Rattle.draid_run.specs.Shelves.{HoldsDesk};
 
 use crate::answer::{Stop, answer};
-use crate::lanes::{add_line, open_lanes, print_lanes, run_lanes};
-use crate::sections::{LaneReplies, Sections};
+use crate::lanes::{add_line, open_lanes, run_lanes};
+use crate::sections::Sections;
 use draid_agent::{Journal, Policy};
 use draid_area::Area;
 use draid_choose::Chooser;
 use draid_exits::{LineRefusal, Status};
 use draid_lines::{Lines, ReadFault, Sink, Source};
-use draid_names::{Failed, NoMemory, Room};
+use draid_names::{NoMemory, Room};
 use draid_pool::Pool;
+use draid_print::{LaneReplies, print_lanes, print_reply};
 use draid_rack::Rack;
-use draid_reply::{Reply, reply_text};
 use draid_script::{LaneLine, Line, LineFault, LineFaultKind, ParseFault, parse_lane, parse_line};
 use draid_shelf::Shelf;
 use std::alloc::Global;
@@ -284,28 +283,6 @@ fn ended(number: u64, section: &Option<Vec<Vec<Line>>>) -> Status
             why: LineRefusal::Fault(LineFaultKind::Lane),
             at: 0,
         },
-    }
-}
-
-/// The text that a reply becomes.
-fn into_text(alloc: Global, reply: Reply) -> Result<Vec<u8>, NoMemory>
-    ensures { IfOk result (λ text. text.items ≡ text_of reply) }
-{
-    reply_text(alloc, &reply)
-}
-
-/// Prints a reply, as one `put`.
-fn print_reply<K: Sink>(alloc: Global, sink: &mut K, reply: Reply) -> Result<(), Status>
-    ensures prints { PrintIs (text_of reply) (K.held sink.old) (K.held sink.new) result }
-    ensures later { K.faults sink.old ≤ K.faults sink.new }
-    ensures cause { result ≡ Err Status.SinkFault → Rose (K.faults sink.old) (K.faults sink.new) }
-{
-    let Ok(text) = into_text(alloc, reply) else {
-        return Err(Status::NoMemory);
-    };
-    match sink.put(&text) {
-        Ok(()) => Ok(()),
-        Err(Failed) => Err(Status::SinkFault),
     }
 }
 

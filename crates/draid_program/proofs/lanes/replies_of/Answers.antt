@@ -1,7 +1,7 @@
 use Rattle.std.proofs.Common.{Bool, ◌∙◌, ◌++◌, ◌∷◌, [], ap, Vec, Global}
 use Rattle.std.specs.Vec.Iter.{into_iter_items}
 use Rattle.draid_reply.specs.declared.reply.Reply.{Reply}
-use Rattle.draid_run.specs.declared.sections.LaneReplies.{LaneReplies}
+use Rattle.draid_print.specs.declared.printing.LaneReplies.{LaneReplies}
 use Rattle.draid_program.proofs.JobsMade.{room_still, telling_more}
 use Rattle.draid_program.proofs.lanes.replies_of.Goals as goal
 

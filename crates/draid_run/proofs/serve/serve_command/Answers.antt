@@ -8,7 +8,7 @@ use Rattle.draid_run.specs.Lines.{IsNoOpening}
 use Rattle.draid_run.specs.Serve.{AnswerIs}
 use Rattle.draid_pool.specs.Shelves.{on_shelf}
 use Rattle.draid_run.proofs.Exits.{Answered, answered_outside, done_cause, line_stopped, line_told, no_opening, same_later, stop_cause}
-use Rattle.draid_run.proofs.Known.{appends_none}
+use Rattle.draid_print.proofs.Appending.{appends_none}
 use Rattle.draid_run.proofs.serve.serve_command.Goals as goal
 
 pub returns-in-Ok-Some : goal.returns-in-Ok-Some

@@ -1,9 +1,9 @@
 use Rattle.std.proofs.Common.{◌≤◌, take}
 use Rattle.std.specs.Io.KnownBytes.{Appends}
 use Rattle.draid_session.specs.Sections.{to_lanes}
-use Rattle.draid_run.specs.Script.{texts_of}
-use Rattle.draid_run.specs.Sections.{replies_in}
-use Rattle.draid_run.proofs.lanes.print_lanes.Given as goal
+use Rattle.draid_print.specs.Printing.{texts_of}
+use Rattle.draid_print.specs.Printing.{replies_in}
+use Rattle.draid_print.proofs.printing.print_lanes.Given as goal
 
 -- the replies to the lanes so far were printed
 abbrev pub invariant-loop-k : goal.invariant-loop-k

@@ -1,13 +1,13 @@
 use Rattle.std.proofs.Common.{◌∙◌, ◌+◌, Err, ap, suc, subst, sym, take, drop}
 use Rattle.std.specs.Io.KnownBytes.{Appends}
 use Rattle.draid_session.specs.Sections.{to_lane, to_lanes}
-use Rattle.draid_run.specs.Script.{texts_of}
-use Rattle.draid_run.specs.Sections.{PrintsAre, replies_in}
-use Rattle.draid_run.specs.declared.sections.LaneReplies.{LaneReplies}
-use Rattle.draid_run.proofs.Exits.{later_on, rose_from, same_later}
-use Rattle.draid_run.proofs.Known.{appends_none}
-use Rattle.draid_run.proofs.Lining.{cut_in, lanes_here, lanes_next, take_whole, texts_on}
-use Rattle.draid_run.proofs.lanes.print_lanes.Goals as goal
+use Rattle.draid_print.specs.Printing.{texts_of}
+use Rattle.draid_print.specs.Printing.{PrintsAre, replies_in}
+use Rattle.draid_print.specs.declared.printing.LaneReplies.{LaneReplies}
+use Rattle.draid_print.proofs.Lining.{later_on, rose_from, same_later}
+use Rattle.draid_print.proofs.Appending.{appends_none}
+use Rattle.draid_print.proofs.Lining.{cut_in, lanes_here, lanes_next, take_whole, texts_on}
+use Rattle.draid_print.proofs.printing.print_lanes.Goals as goal
 
 pub loop-k-init : goal.loop-k-init
 loop-k-init g c = record { printed = appends_none (g.K.Sink.held c.args.sink.now); later = same_later (g.K.Sink.faults c.args.sink.now) }

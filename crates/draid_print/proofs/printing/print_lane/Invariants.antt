@@ -1,8 +1,8 @@
 use Rattle.std.proofs.Common.{◌≤◌, take}
 use Rattle.std.specs.Io.KnownBytes.{Appends}
 use Rattle.draid_session.specs.Sections.{to_lane}
-use Rattle.draid_run.specs.Script.{texts_of}
-use Rattle.draid_run.proofs.lanes.print_lane.Given as goal
+use Rattle.draid_print.specs.Printing.{texts_of}
+use Rattle.draid_print.proofs.printing.print_lane.Given as goal
 
 -- the replies so far were printed
 abbrev pub invariant-loop-k : goal.invariant-loop-k
