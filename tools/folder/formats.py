@@ -247,12 +247,22 @@ def check_of(area, group):
     return point, named
 
 
-def lacking(area, group, births):
-    """Raises the first fault of a check record, by the birth of each block."""
+def named_of(area, group, births):
+    """The blocks that a check record names. Raises its first fault, by the birth of each block."""
     point, named = check_of(area, group)
     for place, key in enumerate(named):
         if births.get(key, point + 1) > point:
             raise Bad(30 + 16 * place, 2)
+    return set(named)
+
+
+def newest_of(blocks):
+    """The newest block of each object."""
+    newest = {}
+    for block in blocks:
+        if block.object not in newest or newest[block.object].number < block.number:
+            newest[block.object] = block
+    return newest
 
 
 def check_area(folder, group):
@@ -296,7 +306,7 @@ def alike(slots):
 
 
 def answer(folder):
-    """What an import of this folder replies, its exit status where the run ends with that, and the newest block of each object."""
+    """What an import of this folder replies, its exit status where the run ends with that, and the block of each object."""
     uber_path = folder / "uber"
     if not uber_path.exists():
         return 0, "import no pool\n", {}
@@ -324,7 +334,6 @@ def joined(uber, found, check):
     """The same where each metaslab could be opened."""
     keys = set()
     births = {}
-    newest = {}
     for metaslab, (slots, blocks) in enumerate(found):
         try:
             if alike(slots) != alike(found[0][0]):
@@ -334,10 +343,10 @@ def joined(uber, found, check):
             return 8, f"record metaslab={metaslab} at={bad.at} kind={bad.kind}\n", {}
         for block in blocks:
             births[block.object, block.number] = block.birth
-            if block.object not in newest or newest[block.object].number < block.number:
-                newest[block.object] = block
     try:
-        lacking(check, uber.group, births)
+        named = named_of(check, uber.group, births)
     except Bad as bad:
         return 8, f"record check at={bad.at} kind={bad.kind}\n", {}
+    # (what the checkpoint alone keeps is no object's)
+    newest = newest_of(block for _, blocks in found for block in blocks if (block.object, block.number) not in named)
     return 0, f"import {uber.name()} group={uber.group} objects={len(newest)}\n", newest

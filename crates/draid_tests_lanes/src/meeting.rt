@@ -173,6 +173,9 @@ fn lanes_meet<W: AllocGlobal + Threads + Wait + Sync>(
     let first = AtomicU64::new(0);
     let second = AtomicU64::new(0);
     let jobs = meetings(rt.alloc(), &first, &second)?;
+    if let Some(_) = pool.uber.point().group() {
+        return None;
+    }
     let (pool, ran) = run_in_lanes(rt, &OpenGate, pool, numbers, jobs);
     reply_to_crash(shelf, pool);
     Some(ran.ok()?.iter().all(|job| job.met))

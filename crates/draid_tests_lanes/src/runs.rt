@@ -64,7 +64,7 @@ pub struct Section {
     pub exported: bool,
 }
 
-/// Runs jobs in lanes over a pool, which comes back with what each lane replied; none where no lane ran, one stopped, or one waited in vain for another.
+/// Runs jobs in lanes over a pool, which comes back with what each lane replied; none where no lane ran, the pool has a checkpoint, one stopped, or one waited in vain for another.
 fn run_jobs<
     R: Rack + Send,
     A: Area + Send,
@@ -85,6 +85,9 @@ fn run_jobs<
     requires ready { AreReady F.Fn numbers.items jobs.items }
     ensures { IsWhole R.Rack A.Area result.0 }
 {
+    if let Some(_) = pool.uber.point().group() {
+        return (pool, None);
+    }
     let (pool, ran) = run_in_lanes(rt, gate, pool, numbers, jobs);
     match ran {
         Ok(jobs) if gate.is_met() => (pool, replies_of(alloc, jobs)),

@@ -30,7 +30,7 @@ struct Row {
     printed: &'static str,
 }
 
-static ROWS: [Row; 13] = [
+static ROWS: [Row; 14] = [
     Row {
         odd: true,
         bytes: WRITTEN,
@@ -96,6 +96,17 @@ static ROWS: [Row; 13] = [
         failing: &[],
         status: 0,
         printed: FOUND,
+    },
+    // One that alone keeps the block of write 3, so object 7 has none.
+    Row {
+        odd: true,
+        bytes: &[
+            0x44, 0x5a, 0x43, 0x50, 0, 1, 0, 0, 0, 46, 0, 0, 0, 0, 0, 0, 0, 3, 0, 0, 0, 0, 0, 0, 0,
+            3, 0, 0, 0, 1, 0, 0, 0, 0, 0, 0, 0, 7, 0, 0, 0, 0, 0, 0, 0, 3,
+        ],
+        failing: &[],
+        status: 0,
+        printed: "import draid1:2d:3c:0s-0 group=3 objects=1\nread 7 no object\n",
     },
     // A block that is freed.
     Row {
