@@ -5,7 +5,7 @@ use Rattle.draid_tests_lanes.proofs.runs.run_jobs.Goals as goal
 
 pub run_in_lanes-pool-requires-clause-may : goal.run_in_lanes-pool-requires-clause-may
 run_in_lanes-pool-requires-clause-may g c κs within = record {
-  unpointed = sym (c.group.ensures ∙ ap (λ (p : Point). p.group) c.point.ensures) ∙ c.in_default-group.is;
+  unpointed = sym (c.group.ensures ∙ ap (λ (p : Point). p.group) c.point.ensures) ∙ c.in_default.is;
   each = λ i job lane begins. (record { shared = c.type_bounds.sync-W.shared }, may_do g.R.Rack g.A.Area g.F.Fn c.args.pool c.args.numbers.items c.args.jobs.items i job lane c.requires.whole c.requires.ready begins);
 }
 
