@@ -6,7 +6,7 @@ from formats import check_area, check_of
 MADE = SMALL + "write 1 aa\nwrite 2 bb\nwrite 3 cc\nsync\n"
 GROUP = 2  # that of the sync, and of the checkpoint
 
-# What goes on beside the checkpoint, line by line with its reply. The first write of an object has its number, and so has each later one.
+# What goes on beside the checkpoint, line by line with its reply. Writes are numbered from 1 on: those of MADE are 1, 2 and 3.
 BESIDE = [
     ("import", "import draid1:2d:3c:0s-0 group=2 objects=3"),
     ("lanes 2\n0 read 1\nend", "lanes checkpoint"),

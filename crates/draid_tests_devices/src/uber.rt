@@ -6,6 +6,7 @@ ghost use Rattle.draid_uber.specs.Uber.{IsNewArea, Valid};
 
 use crate::record::{UBER, small_geometry, uber_with};
 use draid_area::{Area, DeviceFault, MemoryArea};
+use draid_checkpoint::Check;
 use draid_faults::{CrashRule, Fuse};
 use draid_names::LAST_NUMBER;
 use draid_record::RecordFaultKind::Range;
@@ -264,4 +265,56 @@ fn a_recovery_tells_what_stands_there(rt: HostRuntime) {
             "{row}"
         );
     }
+}
+
+/// Makes a checkpoint of the group behind the committed one, and commits that with its check record.
+fn commit_point(alloc: Global, uber: &mut Uber<MemoryArea>) -> Option<()>
+    requires { Valid size_of_memory uber.old }
+    ensures { Valid size_of_memory uber.new }
+{
+    let group = uber.committed();
+    if group >= LAST_NUMBER - 1 {
+        return None;
+    }
+    let Ok(point) = Check::at(alloc, group + 1, 1) else {
+        return None;
+    };
+    uber.make_point(point, group + 1);
+    uber.commit_with_check(group + 1).ok()
+}
+
+/// Gives the checkpoint up in the group behind the committed one, and commits that with its check record.
+fn commit_without(uber: &mut Uber<MemoryArea>) -> Option<()>
+    requires { Valid size_of_memory uber.old }
+    ensures { Valid size_of_memory uber.new }
+{
+    let group = uber.committed();
+    if group >= LAST_NUMBER - 1 {
+        return None;
+    }
+    uber.give_up_point(group + 1);
+    uber.commit_with_check(group + 1).ok()
+}
+
+/// The group of the checkpoint that the check record of the committed group tells, 0 for none.
+fn point_told(uber: &mut Uber<MemoryArea>) -> Option<u64>
+    requires { Valid size_of_memory uber.old }
+    ensures { Valid size_of_memory uber.new }
+{
+    let check = uber.check().ok()?;
+    check.drops.is_empty().then_some(check.group)
+}
+
+/// What the check records of the first two groups tell, where a checkpoint is made in the one and given up in the other.
+fn points_told(alloc: Global) -> Option<(u64, u64)> {
+    let mut uber = created(alloc, 100)?;
+    commit_point(alloc, &mut uber)?;
+    let made = point_told(&mut uber)?;
+    commit_without(&mut uber)?;
+    Some((made, point_told(&mut uber)?))
+}
+
+#[test]
+fn a_checkpoint_is_told_until_it_is_given_up(rt: HostRuntime) {
+    assert!(rt; points_told(rt.alloc()) == Some((1, 0)));
 }
