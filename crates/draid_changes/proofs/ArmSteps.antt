@@ -110,7 +110,7 @@ module _ {R A S : Type 0} (rack : racks.Ghosts R) (area : areas.Ghosts A) (last 
       pub switch_whole : (table : ℕ → Option Pointer) (seq floor : ℕ) → IsWholeBy rack owns (last a) table seq floor → IsWholeBy rack owns (last b) table seq floor
       switch_whole table seq floor whole =
           ends rack area last went shared owns own count table seq floor some a b u u ready beyond whole (
-            switch_has (HasLeft rack area last went shared owns count table seq) (left_on rack area last went shared owns count table seq) some (group_of (kept_of u) + 1) leaf offline a b result switches
+            switch_has (HasLeft rack area last went shared owns count table seq floor) (left_on rack area last went shared owns count table seq floor) some (group_of (kept_of u) + 1) leaf offline a b result switches
                 (begins rack area last went shared owns own count table seq floor some a b u u ready beyond whole),
             (omega arith),
           )

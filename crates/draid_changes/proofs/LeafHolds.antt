@@ -97,12 +97,12 @@ module _ {R A : Type 0} (rack : racks.Ghosts R) (area : areas.Ghosts A) where
   module _ (owns : ℕ → Bool) where
     pub reserve_quiet : (x y : Shard R A) (result : Result Unit ReserveFault) → ReservesOne rack x result y → KeepsQuiet rack owns x y
     reserve_quiet x y result r = record {
-      keeps = record { valid = r.valid; part = r.none.part; entries = record { each = λ key own. inl (r.keeps.entries.held key) } };
+      keeps = record { valid = r.valid; part = r.none.part; opens = (let same = r.keeps.groups.open_group_is in omega (arith, same)); entries = record { each = λ key own. inl (r.keeps.entries.held key) } };
       committed = r.keeps.groups.committed;
     }
 
     pub switch_quiet : (leaf : ℕ) (offline : Bool) (x y : Shard R A) → Switches rack leaf offline x y → KeepsQuiet rack owns x y
     switch_quiet leaf offline x y s = record {
-      keeps = record { valid = s.valid; part = s.does.part; entries = record { each = λ key own. inl (s.keeps.entries.held key) } };
+      keeps = record { valid = s.valid; part = s.does.part; opens = (let same = s.keeps.groups.open_group_is in omega (arith, same)); entries = record { each = λ key own. inl (s.keeps.entries.held key) } };
       committed = s.keeps.groups.committed;
     }

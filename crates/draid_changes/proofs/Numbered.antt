@@ -71,6 +71,7 @@ module _ {R A : Type 0} (rack : racks.Ghosts R) (area : areas.Ghosts A) (late : 
     objects = λ o q at. (let of = w.objects o q at in record { object_is = of.object_is; shard = of.shard; there = of.there; live = of.live });
     floor = subst (λ k. late.own.floor ≤ group_of k + 2) (sym set.kept) w.floor;
     low = w.low;
+    near = w.near;
     point = subst (λ p. PointFits 0 p (get nat_eq late.own.objects) late.own.seq) (sym set.point) w.point;
     behind = λ own m z is there. w.behind own m z (ap (λ (p : Point). p.group) (sym set.point) ∙ is) there;
   }

@@ -77,6 +77,7 @@ module _ {R A : Type 0} (rack : racks.Ghosts R) (area : areas.Ghosts A) where
       objects = λ o q at. (let of = w.objects o q at in record { object_is = of.object_is; shard = of.shard; there = of.there; live = of.live });
       floor = (let fits = w.floor in omega (arith, fits, kept));
       low = w.low;
+      near = w.near;
       point = subst (λ p. PointFits 0 p (get nat_eq new.own.objects) new.own.seq) (sym a.uber.point) w.point;
       behind = λ own k z is at. w.behind own k z (ap (λ (p : Point). p.group) (sym a.uber.point) ∙ is) at;
     })

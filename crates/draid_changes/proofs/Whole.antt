@@ -29,6 +29,7 @@ use Rattle.draid_pool.specs.declared.pool.Pool.{Pool}
 use Rattle.draid_pool.proofs.Arms.{AllShare}
 use Rattle.draid_pool.proofs.Lists.{present}
 use Rattle.draid_pool.proofs.Versions.{same_uber_layout}
+use Rattle.draid_pool.proofs.Nears.{near_kept}
 use Rattle.draid_pool.proofs.Wholes.{fits_on}
 use Rattle.draid_changes.specs.Walks.{ChangedBelow}
 use Rattle.draid_changes.proofs.Walk.{changed_at}
@@ -65,6 +66,7 @@ module _ {R A : Type 0} (rack : racks.Ghosts R) (area : areas.Ghosts A) where
         objects = λ o q at. pointer o q (w.objects o q (sym (ap (λ os. get nat_eq os o) set.objects) ∙ at));
         floor = subst (λ u. new.own.floor ≤ group_of (kept_of u) + 2) (sym set.uber) (let fits = w.floor in let same = set.floor in omega (arith, fits, same));
         low = (let low = w.low in let same = set.floor in omega (arith, low, same));
+        near = near_kept pool.own.floor new.own.floor (slice_get pool.metaslabs.shards.items) (slice_get new.metaslabs.shards.items) (let same = set.floor in omega (arith, same)) stays w.near;
         point = subst (λ u. PointFits 0 (ubers.point_of u) (get nat_eq new.own.objects) new.own.seq) (sym set.uber)
             (fits_on 0 (ubers.point_of pool.uber) (get nat_eq pool.own.objects) (get nat_eq new.own.objects) pool.own.seq new.own.seq (let same = set.seq in omega (arith, same)) (λ o q at. sym (ap (λ os. get nat_eq os o) set.objects) ∙ at) w.point);
         behind = λ own k z is there.
@@ -74,6 +76,9 @@ module _ {R A : Type 0} (rack : racks.Ghosts R) (area : areas.Ghosts A) where
             omega (arith, low, opens));
       }
     where
+      stays : (k : ℕ) (z : Shard R A) → slice_get pool.metaslabs.shards.items k ≡ Some z → (after : Shard R A) × (slice_get new.metaslabs.shards.items k ≡ Some after) × (z.open_group ≤ after.open_group)
+      stays k z at = (let after = c.below k z (slice_get_within pool.metaslabs.shards.items k z at) at in (after.0, after.1, (still z after.0 after.2).opens))
+
       each : (k : ℕ) (z : Shard R A) → slice_get new.metaslabs.shards.items k ≡ Some z → IsShardOf rack w.perms new k z
       each k z there =
           let was = changed_at Changes pool.metaslabs.shards.items new.metaslabs.shards.items c k z there in

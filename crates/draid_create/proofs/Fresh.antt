@@ -69,7 +69,8 @@ use Rattle.draid_pool.proofs.Alike.{alike_as, alike_created, created_same, one_s
 use Rattle.draid_pool.proofs.Arms.{have_same, leaf_named, none_detached}
 use Rattle.draid_pool.proofs.Returned.{Parts, counted_as, holds_pool}
 use Rattle.draid_pool.proofs.Importables.{importable_back}
-use Rattle.draid_pool.proofs.Lists.{ext, some_of}
+use Rattle.draid_pool.specs.Threads.{IsNear}
+use Rattle.draid_pool.proofs.Lists.{ext, present, some_of}
 use Rattle.draid_machine.proofs.Small.{none_some}
 
 -- what an image at a place is of
@@ -421,9 +422,17 @@ module _ {R A : Type 0} (rack : racks.Ghosts R) (area : areas.Ghosts A) where
       objects = λ object pointer there. (let none = empty object in absurd (cc));
       floor = omega (arith, floor);
       low = omega (arith, floor);
+      near = near;
       point = fits_none (point_of pool.uber) (get nat_eq pool.own.objects) pool.own.seq none undropped;
       behind = λ own m shard some there. absurd (none_some (point_of pool.uber).group own none some);
     }
+      where
+        near : IsNear pool.own.floor (slice_get pool.metaslabs.shards.items)
+        near =
+            let some = opened.are_perms.geometry_is.props.some_metaslabs in
+            let many = opened.many in
+            let s = present shards 0 (omega (arith, some, many)) in
+            record { metaslab = 0; shard = s.0; there = ap (λ (xs : List (Shard R A)). slice_get xs 0) items ∙ s.1; near = omega (arith, floor) }
 
     -- what the shelf still told was told before
     tells : (n : ℕ) (h k : Option Held) → TakesFirst n h k → is_some h ≡ is_some k

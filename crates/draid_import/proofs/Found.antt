@@ -58,6 +58,7 @@ use Rattle.draid_import.specs.declared.fault.ImportFault.{ImportFault}
 use Rattle.draid_import.specs.declared.fault.ImportFault.TheVariants as fault
 use Rattle.draid_pool.specs.declared.pool.Pool.{Pool}
 use Rattle.draid_pool.proofs.Returned.{at_end, put_here as placed_here, put_there as placed_there}
+use Rattle.draid_pool.specs.Threads.{IsNear}
 use Rattle.draid_pool.proofs.Lists.{get_set_other, get_set_same, present, some_of}
 use Rattle.draid_pool.proofs.Takings.{from_first, get_before, rose_since}
 use Rattle.draid_pool.proofs.Arms.{AllShare, all_kept, have_from, leaf_kept}
@@ -421,6 +422,7 @@ module _ {R A : Type 0} (rack : racks.Ghosts R) (area : areas.Ghosts A) where
         });
     floor = omega (arith, floor);
     low = (let low = found.low in omega (arith, floor, low));
+    near = near;
     point = fits;
     behind = λ own m shard is there.
         (let f = freed.each m shard there in
@@ -429,6 +431,17 @@ module _ {R A : Type 0} (rack : racks.Ghosts R) (area : areas.Ghosts A) where
         let low = early own is in
         omega (arith, high, committed, low));
   }
+    where
+      near : IsNear pool.own.floor (slice_get pool.metaslabs.shards.items)
+      near =
+          let some = are.layout.geometry_is.props.some_metaslabs in
+          let long = are.many in
+          let many = freed.many in
+          let s = present pool.metaslabs.shards.items 0 (omega (arith, some, long, many)) in
+          let f = freed.each 0 s.0 s.1 in
+          let high = open_high s.0.open_group s.0.closing s.0.committed s.0.sealed f.2.valid.groups in
+          let committed = f.2.committed ∙ (are.each 0 f.0 f.1).committed in
+          record { metaslab = 0; shard = s.0; there = s.1; near = omega (arith, floor, high, committed) }
 
 -- where the shelf has a pool, its uberblock is held
 pub pool_there : (o : Option shelf.Held) (has : Bool) (Q : shelf.Held → Type 0) → shelf.OnHeld o (λ held. IsTrue has ↔ IsSome held.uber) → has ≡ true → shelf.OnHeld o (λ held. held.uber ≡ None → Q held)

@@ -19,7 +19,7 @@ use Rattle.draid_pool.specs.Rounds.{EachIs, HeldOnce, NoneBeyond}
 use Rattle.draid_pool.specs.Threads.{HaveLayout, IsNear, KeepsWhole, all_of}
 use Rattle.draid_pool.proofs.Drifting.{keeps_some}
 use Rattle.draid_pool.proofs.Holding.{some_same}
-use Rattle.draid_pool.proofs.SyncWhole.{HasGroup, HasLeft, HasNext, KeepsOwn, left_on}
+use Rattle.draid_pool.proofs.SyncWhole.{HasGroup, HasLeft, HasNext, KeepsOwn, left_on, near_left}
 use Rattle.draid_lanes.proofs.Kept.{drifts_some}
 
 module _ {R A S : Type 0} (rack : racks.Ghosts R) (area : areas.Ghosts A) (last : S → ℕ → Option (Shard R A)) (went : S → ℕ → Shard R A → Shard R A → S → Type 0) (shared : Bool) (owns : ℕ → Bool) (own : owns groups_number ≡ true) (count : ℕ) (a b : S) (u v : Uber A)
@@ -28,27 +28,9 @@ module _ {R A S : Type 0} (rack : racks.Ghosts R) (area : areas.Ghosts A) (last 
     → HasGroup rack area last went shared owns own count Stays on a (group_of (kept_of u) + 1) → HasNext rack area last went shared owns own count Stays on b v (group_of (kept_of u) + 1)) where
   -- ---- the group
 
-  -- behind holds that come to a group no earlier than the next, all committed one group, and no earlier one than before
-  near_behind : 0 < count → (floor : ℕ) → IsNear floor (last a) → IsNear floor (last b)
-  near_behind any floor is =
-      let z = goes (λ s. Unit) (λ does x m y below h keeps left. tt) (record { left = tt; ready = ready }) in
-      let first = z.0.ready 0 any in
-      let next = first.2.next in
-      let up = z.1 in
-      let committed = was in
-      let low = is.near in
-      record { metaslab = 0; shard = first.0; there = first.1; near = omega (arith, next, up, committed, low) }
-    where
-      was : is.shard.committed ≡ group_of (kept_of u)
-      was = by (cases_lt is.metaslab count)
-        where
-          by : (is.metaslab < count) ⊎ (count ≤ is.metaslab) → is.shard.committed ≡ group_of (kept_of u)
-          by (inl less) =
-              let r = ready is.metaslab less in
-              let same = ap (λ (s : Shard R A). s.committed) (some_same r.0 is.shard (sym r.1 ∙ is.there)) in
-              let next = r.2.next in
-              omega (arith, same, next)
-          by (inr from) = absurd (none_some (last a is.metaslab) is.shard (beyond is.metaslab from) is.there)
+  -- what a floor is near stays so, since no open group falls
+  near_behind : (floor : ℕ) → IsNear floor (last a) → IsNear floor (last b)
+  near_behind floor is = (goes (λ s. IsNear floor (last s)) (near_left rack area last went shared owns count floor) (record { left = is; ready = ready })).0.left
 
   -- ---- what is whole
 
@@ -66,12 +48,12 @@ module _ {R A S : Type 0} (rack : racks.Ghosts R) (area : areas.Ghosts A) (last 
     }
 
     own_some : (x y : Shard R A) → KeepsOwn rack owns x y → KeepsOwn rack some x y
-    own_some x y k = record { valid = k.valid; part = k.part; entries = keeps_some owns some y.committed x.entries y.entries inside k.entries }
+    own_some x y k = record { valid = k.valid; part = k.part; opens = k.opens; entries = keeps_some owns some y.committed x.entries y.entries inside k.entries }
 
-    some_on : (table : ℕ → Option Pointer) (seq : ℕ) (does : Shard R A → Shard R A → Type 0) (x : S) (m : ℕ) (y : S) → m < count → (h : HeldOnce rack area last went shared owns does x m y) → KeepsOwn rack owns h.before h.after
-        → HasLeft rack area last went shared some count table seq x → HasLeft rack area last went shared some count table seq y
+    some_on : (table : ℕ → Option Pointer) (seq floor : ℕ) (does : Shard R A → Shard R A → Type 0) (x : S) (m : ℕ) (y : S) → m < count → (h : HeldOnce rack area last went shared owns does x m y) → KeepsOwn rack owns h.before h.after
+        → HasLeft rack area last went shared some count table seq floor x → HasLeft rack area last went shared some count table seq floor y
     unfolding held_some
-    some_on table seq does x m y below h keeps left = left_on rack area last went shared some count table seq does x m y below (held_some does x m y h) (own_some h.before h.after keeps) left
+    some_on table seq floor does x m y below h keeps left = left_on rack area last went shared some count table seq floor does x m y below (held_some does x m y h) (own_some h.before h.after keeps) left
 
     pub whole_behind : 0 < count → some groups_number ≡ false → KeepsWhole rack some (all_of some) (last a) (last b)
     whole_behind any without table seq floor w = record {
@@ -81,12 +63,12 @@ module _ {R A S : Type 0} (rack : racks.Ghosts R) (area : areas.Ghosts A) (last 
       next = λ m shard mine. absurd (true≢false (sym mine ∙ without));
       pointers = z.0.left.pointers;
       low = w.low;
-      reached = near_behind any floor w.reached;
+      reached = near_behind floor w.reached;
     }
       where
-        z : HasNext rack area last went shared owns own count (HasLeft rack area last went shared some count table seq) (some_on table seq) b v (group_of (kept_of u) + 1)
-        z = goes (HasLeft rack area last went shared some count table seq) (some_on table seq)
-            (record { left = record { shards = w.shards; placed = w.placed; pointers = w.pointers; beyond = beyond }; ready = ready })
+        z : HasNext rack area last went shared owns own count (HasLeft rack area last went shared some count table seq floor) (some_on table seq floor) b v (group_of (kept_of u) + 1)
+        z = goes (HasLeft rack area last went shared some count table seq floor) (some_on table seq floor)
+            (record { left = record { shards = w.shards; placed = w.placed; pointers = w.pointers; near = w.reached; beyond = beyond }; ready = ready })
 
   -- ---- its layout
 

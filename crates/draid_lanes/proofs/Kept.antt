@@ -46,7 +46,7 @@ module _ {R A : Type 0} (rack : racks.Ghosts R) (area : areas.Ghosts A) where
     near_drifts : (floor : ℕ) → IsNear floor last → IsNear floor now
     near_drifts floor is =
         let z = d.each is.metaslab is.shard is.there in
-        record { metaslab = is.metaslab; shard = z.0; there = z.1; near = (let near = is.near in let later = z.2.later in omega (arith, near, later)) }
+        record { metaslab = is.metaslab; shard = z.0; there = z.1; near = (let near = is.near in let opens = z.2.opens in omega (arith, near, opens)) }
 
     -- what was whole is so, where the groups aren't its own
     pub whole_drifts : owns groups_number ≡ false → KeepsWhole rack owns (all_of owns) last now

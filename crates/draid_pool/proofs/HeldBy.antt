@@ -23,6 +23,7 @@ use Rattle.draid_pool.proofs.Drifting.{groups_kept}
 use Rattle.draid_pool.specs.Threads.{AllStay, HasPointer, IsHeldBy, IsNear, IsWholeBut, Stays}
 use Rattle.draid_pool.proofs.Arms.{share_then}
 use Rattle.draid_pool.proofs.Lists.{some_of}
+use Rattle.draid_pool.proofs.Nears.{open_upto}
 use Rattle.draid_pool.proofs.ShardSteps.{pointer_on}
 
 -- ---- one metaslab
@@ -152,36 +153,36 @@ module _ {R A : Type 0} (owns : ℕ → Bool) where
         (λ same. subst (λ j. rest j s) (sym same) (subst (rest m) (some_of (now m) after s here (ap now (sym same) ∙ at)) at_m))
         (λ not. others k s (sym (away k not) ∙ at) not)
 
-    -- a floor is near what is left that isn't above one which was, or is near the metaslab that was held
-    near_on : (floor then_floor : ℕ) → IsNear floor last → (then_floor ≤ floor) ⊎ (then_floor ≤ after.committed + 2) → IsNear then_floor now
+    -- a floor is near what is left that isn't above one which was, or than the group that is open in the metaslab that was held
+    near_on : (floor then_floor : ℕ) → IsNear floor last → (then_floor ≤ floor) ⊎ (then_floor ≤ after.open_group) → IsNear then_floor now
     near_on floor then_floor was (inl less) = dite (ℕ_discrete was.metaslab m)
         (λ same.
         let up = was.near in
-        let one = ap (λ (s : Shard R A). s.committed) (some_of (last m) was.shard shard (ap last (sym same) ∙ was.there) there) in
-        let rises = drifts.later in
-        let stays = groups.groups.committed in
+        let one = ap (λ (s : Shard R A). s.open_group) (some_of (last m) was.shard shard (ap last (sym same) ∙ was.there) there) in
+        let rises = drifts.opens in
+        let stays = groups.groups.open_group_is in
         record { metaslab = m; shard = after; there = here; near = omega (arith, less, up, one, rises, stays) })
         (λ not. (let up = was.near in record { metaslab = was.metaslab; shard = was.shard; there = away was.metaslab not ∙ was.there; near = omega (arith, less, up) }))
     near_on floor then_floor was (inr up) = record { metaslab = m; shard = after; there = here; near = up }
 
     -- where the groups are the thread's own it is near the metaslab that was held in any case
-    near_held : (floor then_floor : ℕ) → (owns groups_number ≡ true → floor ≤ shard.committed + 2) → (then_floor ≤ floor) ⊎ (then_floor ≤ after.committed + 2) → owns groups_number ≡ true → then_floor ≤ after.committed + 2
-    near_held floor then_floor next (inl less) own =
+    near_held : Valid rack after → (floor then_floor : ℕ) → (owns groups_number ≡ true → floor ≤ shard.committed + 2) → (then_floor ≤ floor) ⊎ (then_floor ≤ after.open_group) → owns groups_number ≡ true → then_floor ≤ after.committed + 2
+    near_held valid floor then_floor next (inl less) own =
         let up = next own in
         let drift = (drifts.groups own).groups.committed in
         let stays = groups.groups.committed in
         omega (arith, less, up, drift, stays)
-    near_held floor then_floor next (inr up) own = up
+    near_held valid floor then_floor next (inr up) own = (let most = open_upto after.open_group after.closing after.committed after.sealed valid.groups in omega (arith, up, most))
 
     -- so what is whole
     pub whole_on : Valid rack after → (mine then_mine : ℕ → Key → Bool) (table then_table : ℕ → Option Pointer) (seq floor then_seq then_floor : ℕ) → IsWholeBut rack owns mine last table seq floor → IsHeldBy rack (then_mine m) then_seq after
-        → ((n : ℕ) (k : Key) → (n ≡ m → ⊥) → then_mine n k ≡ true → mine n k ≡ true) → seq ≤ then_seq → (then_floor ≤ floor) ⊎ (then_floor ≤ after.committed + 2) → then_floor ≤ LAST_NUMBER
+        → ((n : ℕ) (k : Key) → (n ≡ m → ⊥) → then_mine n k ≡ true → mine n k ≡ true) → seq ≤ then_seq → (then_floor ≤ floor) ⊎ (then_floor ≤ after.open_group) → then_floor ≤ LAST_NUMBER
         → ((o : ℕ) (q : Pointer) → then_table o ≡ Some q → HasPointer last rack owns o q × (IsLive before q → IsLive after q)) → IsWholeBut rack owns then_mine now then_table then_seq then_floor
     whole_on valid mine then_mine table then_table seq floor then_seq then_floor whole held others later near low pointers = record {
       shards = shards_on (λ k s. IsHeldBy rack (then_mine k) then_seq s) held (λ k s at not. held_more rack (mine k) (then_mine k) seq then_seq s (λ key seen. others k key not seen) later (whole.shards k s at));
       placed = shards_on (λ k s. s.number ≡ k) (ap (λ (q : Part). q.number) (part ∙ drifts.part) ∙ whole.placed m shard there) (λ k s at not. whole.placed k s at);
       together = together_on last now stay_held whole.together;
-      next = λ k s own at. (let up = near_held floor then_floor (λ mine. whole.next m shard mine there) near own in let same = together_on last now stay_held whole.together m k after s own here at in omega (arith, up, same));
+      next = λ k s own at. (let up = near_held valid floor then_floor (λ mine. whole.next m shard mine there) near own in let same = together_on last now stay_held whole.together m k after s own here at in omega (arith, up, same));
       pointers = λ o q at. (let z = pointers o q at in pointer_on rack area shared owns last now m shard before after there drifts (whole.shards m shard there).valid valid is o q z.0 z.1);
       low = low;
       reached = near_on floor then_floor whole.reached near;

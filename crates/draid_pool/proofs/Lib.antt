@@ -49,6 +49,7 @@ pub mod Looking
 pub mod Marked
 pub mod Moved
 pub mod Naming
+pub mod Nears
 pub mod OneHold
 pub mod OwnedKnows
 pub mod OwnedStands

@@ -101,12 +101,7 @@ module _ {R A : Type 0} (rack : racks.Ghosts R) (area : areas.Ghosts A) where
       live = p.live;
     });
     low = w.low;
-    reached = (
-        let first = present pool.metaslabs.shards.items 0 (let many = w.many in let some = w.layout.geometry_is.props.some_metaslabs in omega (arith, many, some)) in
-        let floor = w.floor in
-        let group = (w.shards 0 first.0 first.1).committed in
-        record { metaslab = 0; shard = first.0; there = first.1; near = omega (arith, floor, group) }
-        );
+    reached = w.near;
   }
 
   pub knows_all : (pool : Pool R A) (x : State) → Represents rack area pool x → Knows rack area all (left_in pool) (table_in pool) pool.own.seq pool.own.floor x

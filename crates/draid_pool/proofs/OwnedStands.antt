@@ -176,6 +176,7 @@ module _ {R A : Type 0} (rack : racks.Ghosts R) (area : areas.Ghosts A) where
       objects = λ object pointer at. (let p = by.pointers object pointer at in record { object_is = p.object_is; shard = p.shard; there = p.there; live = p.live });
       floor = floor;
       low = by.low;
+      near = by.reached;
       point = fits;
       behind = behind;
     }

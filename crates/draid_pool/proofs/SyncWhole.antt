@@ -21,7 +21,7 @@ use Rattle.draid_pool.specs.GoingOn.{BeginsIn, GoesOnIn, SealsFrom, SealsUntil}
 use Rattle.draid_pool.specs.Grouping.{ClosesEach, ClosesIn, ClosesNext, CommitsIn, FindsClosing, FinishesIn, SealsBy, SealsEach, SeesClosing, SyncsIn, UberNames, WaitsForWrites}
 use Rattle.draid_pool.specs.Rounds.{EachIs, HeldEach, HeldFrom, HeldOnce, NoneBeyond, StoppedBy}
 use Rattle.draid_pool.specs.Syncing.{Commits, KeepsTable}
-use Rattle.draid_pool.specs.Threads.{HasPointer, IsHeldBy, IsWholeBy, all_of}
+use Rattle.draid_pool.specs.Threads.{HasPointer, IsHeldBy, IsNear, IsWholeBy, all_of}
 use Rattle.draid_pool.specs.declared.fault.SyncFault.{SyncFault}
 use Rattle.draid_pool.specs.declared.fault.SyncFault.TheVariants as sync
 use Rattle.draid_pool.specs.declared.fault.Synced.{Synced}
@@ -30,16 +30,18 @@ use Rattle.draid_pool.proofs.Drifting.{keeps_self}
 use Rattle.draid_pool.proofs.GroupKeeps.{committed_next, drops_keeps}
 use Rattle.draid_pool.proofs.HeldBy.{held_drifts}
 use Rattle.draid_pool.proofs.Holding.{some_same}
+use Rattle.draid_pool.proofs.Nears.{near_kept}
 use Rattle.draid_pool.proofs.PhaseSteps.{found_next, found_ready}
 use Rattle.draid_pool.proofs.RoundSteps.{each_more, each_stays}
 use Rattle.draid_pool.proofs.ShardSteps.{live_on, pointer_on}
 
 -- ---- one metaslab
 
--- what it has of a thread's own objects is as it was
+-- what it has of a thread's own objects is as it was, and its open group didn't fall
 pub record KeepsOwn {R A : Type 0} (rack : racks.Ghosts R) (owns : ℕ → Bool) (old new : Shard R A) : Type 0 where
   pub valid : Valid rack new
   pub part : part_of new ≡ part_of old
+  pub opens : old.open_group ≤ new.open_group
   pub entries : KeepsOf owns new.committed old.entries new.entries
 
 -- and so is the committed group
@@ -49,15 +51,16 @@ pub record KeepsQuiet {R A : Type 0} (rack : racks.Ghosts R) (owns : ℕ → Boo
 
 module _ {R A : Type 0} (rack : racks.Ghosts R) (area : areas.Ghosts A) (owns : ℕ → Bool) where
   table_quiet : (old new : Shard R A) → Valid rack new → KeepsTable old new → KeepsQuiet rack owns old new
-  table_quiet old new valid table = record { keeps = record { valid = valid; part = table.part; entries = record { each = λ key own. inl (table.entries.held key) } }; committed = table.committed }
+  table_quiet old new valid table = record { keeps = record { valid = valid; part = table.part; opens = table.opens; entries = record { each = λ key own. inl (table.entries.held key) } }; committed = table.committed }
 
   pub still_quiet : (old new : Shard R A) → Valid rack old → new ≡ old → KeepsQuiet rack owns old new
-  still_quiet old new valid same = subst (KeepsQuiet rack owns old) (sym same) (record { keeps = record { valid = valid; part = refl; entries = keeps_self owns old.committed old.entries }; committed = refl })
+  still_quiet old new valid same = subst (KeepsQuiet rack owns old) (sym same) (record { keeps = record { valid = valid; part = refl; opens = omega arith; entries = keeps_self owns old.committed old.entries }; committed = refl })
 
   commit_keeps_own : (group : ℕ) (old new : Shard R A) → Commits rack group old new → KeepsOwn rack owns old new
   commit_keeps_own group old new c = record {
     valid = c.valid;
     part = c.does.part;
+    opens = (let same = c.commits.open_group_is in omega (arith, same));
     entries = drops_keeps owns new.committed old.entries new.entries (subst (λ g. DropsFreed g old.entries new.entries) (sym c.commits.committed) c.commits.entries);
   }
 
@@ -82,14 +85,29 @@ module _ {R A S : Type 0} (rack : racks.Ghosts R) (area : areas.Ghosts A) (last 
     beyond_on keeps beyond k from = away k (λ same. omega (arith, same, from, below)) ∙ beyond k from
 
   -- what a thread needs of each, whatever the groups
-  pub record HasLeft (table : ℕ → Option Pointer) (seq : ℕ) (s : S) : Type 0 where
+  pub record HasLeft (table : ℕ → Option Pointer) (seq floor : ℕ) (s : S) : Type 0 where
     pub shards : (m : ℕ) (shard : Shard R A) → last s m ≡ Some shard → IsHeldBy rack (all_of owns m) seq shard
     pub placed : (m : ℕ) (shard : Shard R A) → last s m ≡ Some shard → shard.number ≡ m
     pub pointers : (object : ℕ) (pointer : Pointer) → table object ≡ Some pointer → HasPointer (last s) rack owns object pointer
+    pub near : IsNear floor (last s)
     pub beyond : NoneBeyond count (last s)
 
-  module _ (table : ℕ → Option Pointer) (seq : ℕ) (does : Shard R A → Shard R A → Type 0) (a : S) (m : ℕ) (b : S) (below : m < count) (h : HeldOnce rack area last went shared owns does a m b) where
-    pub left_on : KeepsOwn rack owns h.before h.after → HasLeft table seq a → HasLeft table seq b
+  module _ (floor : ℕ) (does : Shard R A → Shard R A → Type 0) (a : S) (m : ℕ) (b : S) (below : m < count) (h : HeldOnce rack area last went shared owns does a m b) where
+    -- a floor is near what a hold leaves which it was near
+    pub near_left : KeepsOwn rack owns h.before h.after → IsNear floor (last a) → IsNear floor (last b)
+    near_left keeps was = near_kept floor floor (last a) (last b) (omega arith) stays was
+      where
+        stays : (k : ℕ) (s : Shard R A) → last a k ≡ Some s → (after : Shard R A) × (last b k ≡ Some after) × (s.open_group ≤ after.open_group)
+        stays k s at = dite (ℕ_discrete k m)
+            (λ same.
+            let one = ap (λ (z : Shard R A). z.open_group) (some_same h.shard s (sym h.there ∙ (ap (last a) (sym same) ∙ at))) in
+            let drift = h.drifts.opens in
+            let on = keeps.opens in
+            (h.after, ap (last b) same ∙ here does a m b below h, omega (arith, one, drift, on)))
+            (λ not. (s, away does a m b below h k not ∙ at, omega arith))
+
+  module _ (table : ℕ → Option Pointer) (seq floor : ℕ) (does : Shard R A → Shard R A → Type 0) (a : S) (m : ℕ) (b : S) (below : m < count) (h : HeldOnce rack area last went shared owns does a m b) where
+    pub left_on : KeepsOwn rack owns h.before h.after → HasLeft table seq floor a → HasLeft table seq floor b
     left_on keeps left =
         let was = left.shards m h.shard h.there in
         let found = held_drifts rack (all_of owns m) seq h.shard h.before h.drifts.valid was owns h.before.committed (λ k mine. mine) h.drifts.own in
@@ -98,6 +116,7 @@ module _ {R A S : Type 0} (rack : racks.Ghosts R) (area : areas.Ghosts A) (last 
           placed = on_each does a m b below h (λ k s. s.number ≡ k) (ap (λ (q : Part). q.number) (keeps.part ∙ h.drifts.part) ∙ left.placed m h.shard h.there) left.placed;
           pointers = λ o p at. pointer_on rack area shared owns (last a) (last b) m h.shard h.before h.after h.there h.drifts was.valid keeps.valid h.is o p (left.pointers o p at)
               (live_on rack area owns h.after.committed h.before h.after p h.drifts.valid keeps.valid keeps.part keeps.entries (let has = left.pointers o p at in ap owns has.object_is ∙ has.own));
+          near = near_left floor does a m b below h keeps left.near;
           beyond = beyond_on does a m b below h keeps left.beyond;
         }
 
@@ -274,10 +293,10 @@ module _ {R A S : Type 0} (rack : racks.Ghosts R) (area : areas.Ghosts A) (last 
 module _ {R A S : Type 0} (rack : racks.Ghosts R) (area : areas.Ghosts A) (last : S → ℕ → Option (Shard R A)) (went : S → ℕ → Shard R A → Shard R A → S → Type 0) (shared : Bool) (owns : ℕ → Bool) (own : owns groups_number ≡ true) (count : ℕ)
     (table : ℕ → Option Pointer) (seq floor : ℕ) (some : 0 < count) (a b : S) (u v : Uber A) (ready : EachIs count (ClosesNext rack (group_of (kept_of u) + 1)) (last a)) (beyond : NoneBeyond count (last a))
     (whole : IsWholeBy rack owns (last a) table seq floor) where
-  pub begins : HasGroup rack area last went shared owns own count (HasLeft rack area last went shared owns count table seq) (left_on rack area last went shared owns count table seq) a (group_of (kept_of u) + 1)
-  begins = record { left = record { shards = whole.shards; placed = whole.placed; pointers = whole.pointers; beyond = beyond }; ready = ready }
+  pub begins : HasGroup rack area last went shared owns own count (HasLeft rack area last went shared owns count table seq floor) (left_on rack area last went shared owns count table seq floor) a (group_of (kept_of u) + 1)
+  begins = record { left = record { shards = whole.shards; placed = whole.placed; pointers = whole.pointers; near = whole.reached; beyond = beyond }; ready = ready }
 
-  pub ends : HasNext rack area last went shared owns own count (HasLeft rack area last went shared owns count table seq) (left_on rack area last went shared owns count table seq) b v (group_of (kept_of u) + 1) → IsWholeBy rack owns (last b) table seq floor
+  pub ends : HasNext rack area last went shared owns own count (HasLeft rack area last went shared owns count table seq floor) (left_on rack area last went shared owns count table seq floor) b v (group_of (kept_of u) + 1) → IsWholeBy rack owns (last b) table seq floor
   ends z = record {
     shards = z.0.left.shards;
     placed = z.0.left.placed;
@@ -285,7 +304,7 @@ module _ {R A S : Type 0} (rack : racks.Ghosts R) (area : areas.Ghosts A) (last 
     next = λ m shard mine at. (let x = at_group m shard at in let up = z.1 in omega (arith, x, up, low));
     pointers = z.0.left.pointers;
     low = whole.low;
-    reached = (let first = z.0.ready 0 some in let up = z.1 in let is = first.2.next in record { metaslab = 0; shard = first.0; there = first.1; near = omega (arith, up, is, low) });
+    reached = z.0.left.near;
   }
     where
       low : floor ≤ group_of (kept_of u) + 2
@@ -299,19 +318,19 @@ module _ {R A S : Type 0} (rack : racks.Ghosts R) (area : areas.Ghosts A) (last 
           by (inr from) = absurd (none_some (last b m) shard (z.0.left.beyond m from) at)
 
   pub finish_whole : (out : Option (Result Unit SyncFault)) → FinishesIn rack area last went shared owns count a u out b v → IsWholeBy rack owns (last b) table seq floor
-  finish_whole out finishes = ends (finishes_next rack area last went shared owns own count (HasLeft rack area last went shared owns count table seq) (left_on rack area last went shared owns count table seq) (group_of (kept_of u) + 1) a b u v out refl finishes begins)
+  finish_whole out finishes = ends (finishes_next rack area last went shared owns own count (HasLeft rack area last went shared owns count table seq floor) (left_on rack area last went shared owns count table seq floor) (group_of (kept_of u) + 1) a b u v out refl finishes begins)
 
   pub sync_whole : (out : Option (Result Synced SyncFault)) → SyncsIn rack area last went shared owns count a u out b v → IsWholeBy rack owns (last b) table seq floor
-  sync_whole out syncs = ends (syncs_next rack area last went shared owns own count (HasLeft rack area last went shared owns count table seq) (left_on rack area last went shared owns count table seq) (group_of (kept_of u) + 1) a b u v out refl syncs begins)
+  sync_whole out syncs = ends (syncs_next rack area last went shared owns own count (HasLeft rack area last went shared owns count table seq floor) (left_on rack area last went shared owns count table seq floor) (group_of (kept_of u) + 1) a b u v out refl syncs begins)
 
   pub begin_whole : (out : Option (Result Syncing SyncFault)) → BeginsIn rack area last went shared owns count a u out b v → IsWholeBy rack owns (last b) table seq floor
-  begin_whole out it = ends (begins_next rack area last went shared owns own count (HasLeft rack area last went shared owns count table seq) (left_on rack area last went shared owns count table seq) (group_of (kept_of u) + 1) a b u v out refl it begins)
+  begin_whole out it = ends (begins_next rack area last went shared owns own count (HasLeft rack area last went shared owns count table seq floor) (left_on rack area last went shared owns count table seq floor) (group_of (kept_of u) + 1) a b u v out refl it begins)
 
   pub go_whole : (old new : Syncing) (out : Option (Result Synced SyncFault)) → old.group ≡ group_of (kept_of u) + 1 → GoesOnIn rack area last went shared owns count a old u out b new v → IsWholeBy rack owns (last b) table seq floor
   go_whole old new out is it =
-      let H = HasGroup rack area last went shared owns own count (HasLeft rack area last went shared owns count table seq) (left_on rack area last went shared owns count table seq) in
-      ends (subst (HasNext rack area last went shared owns own count (HasLeft rack area last went shared owns count table seq) (left_on rack area last went shared owns count table seq) b v) is
-      (goes_next rack area last went shared owns own count (HasLeft rack area last went shared owns count table seq) (left_on rack area last went shared owns count table seq) a b old new u v out is it (subst (H a) (sym is) begins)))
+      let H = HasGroup rack area last went shared owns own count (HasLeft rack area last went shared owns count table seq floor) (left_on rack area last went shared owns count table seq floor) in
+      ends (subst (HasNext rack area last went shared owns own count (HasLeft rack area last went shared owns count table seq floor) (left_on rack area last went shared owns count table seq floor) b v) is
+      (goes_next rack area last went shared owns own count (HasLeft rack area last went shared owns count table seq floor) (left_on rack area last went shared owns count table seq floor) a b old new u v out is it (subst (H a) (sym is) begins)))
 
 -- ---- what is ready
 

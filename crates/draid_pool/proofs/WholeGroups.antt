@@ -1,5 +1,5 @@
 -- A whole pool stays whole as its uberblock names a group, or is refused it.
-use Rattle.std.proofs.Common.{◌≡◌, ◌+◌, ◌<◌, ◌∙◌, ℕ, List, Some, None, arith, sym, ap, subst, length, if◌then◌else◌}
+use Rattle.std.proofs.Common.{◌≡◌, ◌+◌, ◌<◌, ◌≤◌, ◌∙◌, ℕ, List, Some, None, arith, sym, ap, subst, length, if◌then◌else◌}
 use Rattle.std.specs.Prelude.{nat_eq, slice_get}
 use Rattle.std.specs.HashMap.{get}
 use Rattle.std.proofs.lemmas.Option.{slice_get_within}
@@ -28,6 +28,7 @@ use Rattle.draid_pool.specs.Whole.{IsPointer, IsShardOf, IsWhole, PointFits}
 use Rattle.draid_pool.specs.declared.pool.Pool.{Pool}
 use Rattle.draid_pool.proofs.Arms.{leaf_left, share_left}
 use Rattle.draid_pool.proofs.Lists.{present, some_of}
+use Rattle.draid_pool.proofs.Nears.{near_kept}
 use Rattle.draid_pool.specs.Ubers.{Names, Refuses}
 use Rattle.draid_pool.proofs.Versions.{layout_again}
 use Rattle.draid_pool.proofs.Wholes.{fits_on}
@@ -96,6 +97,7 @@ module _ {R A : Type 0} (rack : racks.Ghosts R) (area : areas.Ghosts A) where
         record { object_is = of.object_is; shard = of.shard; there = ap (λ zs. slice_get zs q.metaslab) shards ∙ of.there; live = of.live });
     floor = (let fits = w.floor in let same = ap group_of n.kept in omega (arith, fits, same, floor));
     low = (let low = w.low in omega (arith, low, floor));
+    near = near_kept pool.own.floor new.own.floor (slice_get pool.metaslabs.shards.items) (slice_get new.metaslabs.shards.items) (omega (arith, floor)) (λ k z at. (z, ap (λ zs. slice_get zs k) shards ∙ at, omega arith)) w.near;
     point = point_on pool new w n.point objects seq;
     behind = λ own k z is there. w.behind own k z (ap (λ (p : Point). p.group) (sym n.point) ∙ is) (sym (ap (λ zs. slice_get zs k) shards) ∙ there);
   }
@@ -121,10 +123,17 @@ module _ {R A : Type 0} (rack : racks.Ghosts R) (area : areas.Ghosts A) where
     objects = λ o q at. pointer o q (w.objects o q (sym (ap (λ os. get nat_eq os o) objects) ∙ at));
     floor = (let fits = w.floor in omega (arith, fits, named, next, floor));
     low = (let low = w.low in omega (arith, low, floor));
+    near = near_kept pool.own.floor new.own.floor (slice_get pool.metaslabs.shards.items) (slice_get new.metaslabs.shards.items) (omega (arith, floor)) stays w.near;
     point = point_on pool new w n.point objects seq;
     behind = behind;
   }
     where
+      stays : (k : ℕ) (z : Shard R A) → slice_get pool.metaslabs.shards.items k ≡ Some z → (after : Shard R A) × (slice_get new.metaslabs.shards.items k ≡ Some after) × (z.open_group ≤ after.open_group)
+      stays k z at =
+          let after = commits.below k z (slice_get_within pool.metaslabs.shards.items k z at) at in
+          let same = after.2.commits.open_group_is in
+          (after.0, after.1, omega (arith, same))
+
       behind : (own k : ℕ) (z : Shard R A) → (ubers.point_of new.uber).group ≡ Some own → slice_get new.metaslabs.shards.items k ≡ Some z → own < z.open_group
       behind own k z is there =
           let inside = slice_get_within new.metaslabs.shards.items k z there in

@@ -37,6 +37,7 @@ use Rattle.draid_pool.specs.Whole.{IsPointer, IsShardOf, IsWhole, PointFits}
 use Rattle.draid_pool.specs.declared.pool.Pool.{Pool}
 use Rattle.draid_pool.proofs.Arms.{Kept, all_kept, leaf_kept}
 use Rattle.draid_pool.proofs.Lists.{get_set_other, get_set_same, some_of}
+use Rattle.draid_pool.proofs.Nears.{near_kept}
 use Rattle.std.proofs.lemmas.Bool.Decides.{nat_tests}
 use Rattle.draid_pool.specs.Pointers.{SamePointers}
 use Rattle.draid_pool.proofs.Versions.{same_uber_layout}
@@ -158,9 +159,9 @@ module _ {R A : Type 0} (rack : racks.Ghosts R) (area : areas.Ghosts A) where
   }
 
   whole_replaced : (m : ℕ) (pool new : Pool R A) (shard shard' : Shard R A) → IsWhole rack area pool → Replaces m pool new shard shard' → pool.own.seq ≤ new.own.seq → Numbered new.own.seq shard'
-      → ((o : ℕ) (q : Pointer) → get nat_eq new.own.objects o ≡ Some q → IsPointer new o q) → new.own.floor ≤ group_of (kept_of pool.uber) + 2 → new.own.floor ≤ LAST_NUMBER
+      → ((o : ℕ) (q : Pointer) → get nat_eq new.own.objects o ≡ Some q → IsPointer new o q) → new.own.floor ≤ group_of (kept_of pool.uber) + 2 → new.own.floor ≤ LAST_NUMBER → new.own.floor ≤ pool.own.floor
       → PointFits 0 (ubers.point_of pool.uber) (get nat_eq new.own.objects) new.own.seq → IsWhole rack area new
-  whole_replaced m pool new shard shard' w r up n objects floor low fits = record {
+  whole_replaced m pool new shard shard' w r up n objects floor low less fits = record {
     perms = w.perms;
     layout = subst (λ g. IsLayout g w.perms) (sym r.geometry) w.layout;
     many = ap (λ zs. length zs) r.sets ∙ (length-set pool.metaslabs.shards.items m shard' ∙ (w.many ∙ ap (λ (g : Geometry). g.props.metaslabs) (sym r.geometry)));
@@ -171,10 +172,21 @@ module _ {R A : Type 0} (rack : racks.Ghosts R) (area : areas.Ghosts A) where
     objects = objects;
     floor = subst (λ u. new.own.floor ≤ group_of (kept_of u) + 2) (sym r.uber) floor;
     low = low;
+    near = near_kept pool.own.floor new.own.floor (slice_get pool.metaslabs.shards.items) (slice_get new.metaslabs.shards.items) less stays w.near;
     point = subst (λ u. PointFits 0 (ubers.point_of u) (get nat_eq new.own.objects) new.own.seq) (sym r.uber) fits;
     behind = λ own_group k z is there. later k z there own_group (ap (λ u. (ubers.point_of u).group) (sym r.uber) ∙ is);
   }
     where
+      stays : (k : ℕ) (z : Shard R A) → slice_get pool.metaslabs.shards.items k ≡ Some z → (after : Shard R A) × (slice_get new.metaslabs.shards.items k ≡ Some after) × (z.open_group ≤ after.open_group)
+      stays k z at = elim (cases_eq k m) [
+        | inl same ↦
+            let was : shard ≡ z = some_of (slice_get pool.metaslabs.shards.items m) shard z r.there (subst (λ j. slice_get pool.metaslabs.shards.items j ≡ Some z) same at) in
+            let one = ap (λ (q : Shard R A). q.open_group) was in
+            let opens = r.opens in
+            (shard', ap (slice_get new.metaslabs.shards.items) same ∙ (ap (λ zs. slice_get zs m) r.sets ∙ get_set_same pool.metaslabs.shards.items m shard shard' r.there), omega (arith, one, opens))
+        | inr other ↦ (z, ap (λ zs. slice_get zs k) r.sets ∙ (get_set_other pool.metaslabs.shards.items m k shard' (λ same. omega (arith, same, other)) ∙ at), omega arith)
+      ]
+
       later : (k : ℕ) (z : Shard R A) → slice_get new.metaslabs.shards.items k ≡ Some z → (group : ℕ) → (ubers.point_of pool.uber).group ≡ Some group → group < z.open_group
       later k z there group is = elim (cases_eq k m) [
         | inl same ↦
@@ -252,7 +264,7 @@ module _ {R A : Type 0} (rack : racks.Ghosts R) (area : areas.Ghosts A) where
       let fits = w.floor in
       let low = w.low in
       whole_replaced m pool new shard shard' w r (omega (arith, seq)) (subst (λ n. Numbered n shard') (sym seq) (numbered_kept shard shard' pool.own.seq same (numbered_here pool m shard w r.there)))
-      (λ o q at. pointer_replaced m pool new shard shard' o q r (λ live. same.at q.first ∙ live) (w.objects o q (sym (objects o) ∙ at))) (omega (arith, fits, floor)) (omega (arith, low, floor))
+      (λ o q at. pointer_replaced m pool new shard shard' o q r (λ live. same.at q.first ∙ live) (w.objects o q (sym (objects o) ∙ at))) (omega (arith, fits, floor)) (omega (arith, low, floor)) (omega (arith, floor))
       (fits_on 0 (ubers.point_of pool.uber) (get nat_eq pool.own.objects) (get nat_eq new.own.objects) pool.own.seq new.own.seq (omega (arith, seq)) (λ o p at. sym (objects o) ∙ at) w.point)
 
   -- and no group
@@ -274,6 +286,7 @@ module _ {R A : Type 0} (rack : racks.Ghosts R) (area : areas.Ghosts A) where
     objects = λ o q at. (let of = objects o q at in record { object_is = of.object_is; shard = of.shard; there = ap (λ zs. slice_get zs q.metaslab) shards ∙ of.there; live = of.live });
     floor = subst (λ u. new.own.floor ≤ group_of (kept_of u) + 2) (sym uber) (let fits = w.floor in omega (arith, fits, floor));
     low = (let low = w.low in omega (arith, low, floor));
+    near = near_kept pool.own.floor new.own.floor (slice_get pool.metaslabs.shards.items) (slice_get new.metaslabs.shards.items) (omega (arith, floor)) (λ k z at. (z, ap (λ zs. slice_get zs k) shards ∙ at, omega arith)) w.near;
     point = subst (λ u. PointFits 0 (ubers.point_of u) (get nat_eq new.own.objects) new.own.seq) (sym uber) fits_now;
     behind = λ group k z is there. w.behind group k z (ap (λ u. (ubers.point_of u).group) (sym uber) ∙ is) (sym (ap (λ zs. slice_get zs k) shards) ∙ there);
   }

@@ -107,12 +107,12 @@ pub record IsHeldBy {R A : Type 0} (rack : racks.Ghosts R) (mine : Key → Bool)
   pub numbered : (key : Key) (h : Held) → mine key ≡ true → held_in shard.entries key ≡ Some h → key.seq ≤ seq
   pub settled : (key : Key) (h : Held) → mine key ≡ true → held_in shard.entries key ≡ Some h → is_block h.stage ≡ true
 
--- a floor is at most two ahead of what some metaslab had committed as it was left
+-- a floor is at most the group that was open in some metaslab as it was left
 pub record IsNear {R A : Type 0} (floor : ℕ) (last : ℕ → Option (Shard R A)) : Type 0 where
   pub metaslab : ℕ
   pub shard : Shard R A
   pub there : last metaslab ≡ Some shard
-  pub near : floor ≤ shard.committed + 2
+  pub near : floor ≤ shard.open_group
 
 -- What a thread has, where the blocks of some places are seen: its metaslabs, and pointers of live blocks. Its floor is near what it left. Where the groups are its own, all
 -- metaslabs have committed the same one, and its floor is at most two ahead of that.

@@ -18,6 +18,7 @@ use Rattle.draid_shard.specs.States.{part_of}
 use Rattle.draid_shard.specs.declared.shard.Shard.{Shard}
 use Rattle.draid_uber.specs.Slots.{group_of}
 use Rattle.draid_uber.specs.Uber as ubers
+use Rattle.draid_pool.specs.Threads.{IsNear}
 use Rattle.draid_pool.specs.declared.pool.Pool.{Pool}
 use Rattle.draid_checkpoint.specs.Check.{Point, holds_birth}
 
@@ -49,7 +50,8 @@ pub record PointFits (more : ℕ) (point : Point) (table : ℕ → Option Pointe
   pub begun : All (λ d. d.seq ≤ seq) point.drops
   pub none : point.group ≡ None → point.drops ≡ []
 
--- What each call needs and keeps. A pool is whole also where nothing is known of what its devices held as it was imported. All its metaslabs have the same arms.
+-- What each call needs and keeps. A pool is whole also where nothing is known of what its devices held as it was imported. All its metaslabs have the same arms. Its floor is at most
+-- the group that is open in some metaslab.
 -- But for its version its uberblock has the pool's layout.
 pub record IsWhole {R A : Type 0} (rack : racks.Ghosts R) (area : areas.Ghosts A) (pool : Pool R A) : Type 0 where
   pub perms : Perms
@@ -62,5 +64,6 @@ pub record IsWhole {R A : Type 0} (rack : racks.Ghosts R) (area : areas.Ghosts A
   pub objects : (object : ℕ) (pointer : Pointer) → get nat_eq pool.own.objects object ≡ Some pointer → IsPointer pool object pointer
   pub floor : pool.own.floor ≤ group_of (ubers.kept_of pool.uber) + 2
   pub low : pool.own.floor ≤ LAST_NUMBER
+  pub near : IsNear pool.own.floor (slice_get pool.metaslabs.shards.items)
   pub point : PointFits 0 (ubers.point_of pool.uber) (get nat_eq pool.own.objects) pool.own.seq
   pub behind : (own m : ℕ) (shard : Shard R A) → (ubers.point_of pool.uber).group ≡ Some own → slice_get pool.metaslabs.shards.items m ≡ Some shard → own < shard.open_group

@@ -29,7 +29,7 @@ use Rattle.draid_uber.specs.Slots.{group_of}
 use Rattle.draid_uber.specs.Uber as ubers
 use Rattle.draid_uber.specs.declared.uber.Uber.{Uber}
 use Rattle.draid_pool.specs.Drifts.{Drifts, groups_number}
-use Rattle.draid_pool.specs.Threads.{IsHeldBy, all_of}
+use Rattle.draid_pool.specs.Threads.{IsHeldBy, IsNear, all_of}
 use Rattle.draid_pool.specs.Whole.{IsPointer, IsShardOf, IsWhole}
 use Rattle.draid_pool.specs.declared.cell.Cell.{Cell}
 use Rattle.draid_pool.specs.declared.own.Own.{Own}
@@ -47,6 +47,7 @@ use Rattle.draid_lanes.proofs.Drifted.{drifts_found}
 use Rattle.draid_lanes.proofs.Held.{has_place, owned_at}
 use Rattle.draid_lanes.proofs.SyncUnder.{groups_in, owned_all}
 use Rattle.draid_checkpoint.specs.Check.{Point}
+use Rattle.draid_pool.proofs.Nears.{open_upto}
 use Rattle.draid_pool.proofs.Wholes.{fits_none}
 use Rattle.draid_machine.proofs.Small.{none_some}
 use Rattle.std.specs.HashMap.{get}
@@ -305,10 +306,33 @@ module _ {R A : Type 0} (rack : racks.Ghosts R) (area : areas.Ghosts A) (pool : 
         near_now new.own.floor 0 (owned_by rests) one.0 (omega (arith, less, near, is)) (rest_came 0 one.0 one.1)
     floor_is (inr z) =
         let lane = lane_of z.0 z.1 z.2 in
+        let whole = (has z.0 lane.0 z.1 lane.1 z.2).whole in
+        let near = whole.reached in
+        let less = z.3 in
+        let up = near.near in
+        let most = open_upto near.shard.open_group near.shard.closing near.shard.committed near.shard.sealed (whole.shards near.metaslab near.shard near.there).valid.groups in
+        near_now new.own.floor near.metaslab (owned_by lane.0.items) near.shard (omega (arith, less, up, most)) (lane_came z.0 lane.0 z.1 lane.1 z.2 near.metaslab near.shard near.there)
+
+    -- a floor that was at most a group which was open is at most one that is open now
+    near_then : (floor m : ℕ) (mine : ℕ → Bool) (was : Shard R A) → floor ≤ was.open_group → CameFrom mine m was → IsNear floor (slice_get new.metaslabs.shards.items)
+    near_then floor m mine was near came = record {
+      metaslab = m;
+      shard = came.shard;
+      there = ap (λ (l : List (Shard R A)). slice_get l m) g.metaslabs ∙ came.there;
+      near = (let rises = came.drifts.opens in omega (arith, near, rises));
+    }
+
+    near_is : AFloor → IsNear new.own.floor (slice_get new.metaslabs.shards.items)
+    near_is (inl less) =
+        let near = e.whole.near in
+        let up = near.near in
+        near_then new.own.floor near.metaslab (owned_by rests) near.shard (omega (arith, less, up)) (rest_came near.metaslab near.shard near.there)
+    near_is (inr z) =
+        let lane = lane_of z.0 z.1 z.2 in
         let near = (has z.0 lane.0 z.1 lane.1 z.2).whole.reached in
         let less = z.3 in
         let up = near.near in
-        near_now new.own.floor near.metaslab (owned_by lane.0.items) near.shard (omega (arith, less, up)) (lane_came z.0 lane.0 z.1 lane.1 z.2 near.metaslab near.shard near.there)
+        near_then new.own.floor near.metaslab (owned_by lane.0.items) near.shard (omega (arith, less, up)) (lane_came z.0 lane.0 z.1 lane.1 z.2 near.metaslab near.shard near.there)
 
     low_is : AFloor → new.own.floor ≤ LAST_NUMBER
     low_is (inl less) = (let low = e.whole.low in omega (arith, less, low))
@@ -347,6 +371,7 @@ module _ {R A : Type 0} (rack : racks.Ghosts R) (area : areas.Ghosts A) (pool : 
       objects = λ object pointer at. pointer_is object pointer (g.objects object pointer at);
       floor = floor_is g.floor;
       low = low_is g.floor;
+      near = near_is g.floor;
       point = fits_none (ubers.point_of new.uber) (get nat_eq new.own.objects) new.own.seq none_is (ap (λ (p : Point). p.drops) point_is ∙ e.whole.point.none e.unpointed);
       behind = λ own m shard is at. absurd (none_some (ubers.point_of new.uber).group own none_is is);
     }

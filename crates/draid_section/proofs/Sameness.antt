@@ -30,6 +30,7 @@ use Rattle.draid_section.specs.Section.{IsMadeOf, SameOwn}
 use Rattle.draid_section.specs.Whole.{pointer_in}
 use Rattle.draid_section.proofs.Beginning.{first_of}
 use Rattle.draid_section.proofs.Kept.{get_map, list_same}
+use Rattle.draid_pool.proofs.Nears.{near_kept}
 use Rattle.draid_pool.proofs.Wholes.{fits_on}
 
 pub take_front : {X : Type 0} (n : ℕ) (xs ys : List X) → n ≡ length xs → take n (xs ++ ys) ≡ xs
@@ -106,6 +107,7 @@ module _ {R A : Type 0} where
         objects = pointer_same;
         floor = (let near = w.floor in let same = s.floor in let is = ap (λ (u : Uber A). group_of (ubers.kept_of u)) s.uber in omega (arith, near, same, is));
         low = (let low = w.low in let same = s.floor in omega (arith, low, same));
+        near = near_kept pool.own.floor new.own.floor (slice_get pool.metaslabs.shards.items) (slice_get new.metaslabs.shards.items) (let same = s.floor in omega (arith, same)) (λ m shard at. (shard, ap (λ l. slice_get l m) s.metaslabs ∙ at, omega arith)) w.near;
         point = subst (λ (u : Uber A). PointFits 0 (ubers.point_of u) (pointer_in new) new.own.seq) (sym s.uber)
             (fits_on 0 (ubers.point_of pool.uber) (pointer_in pool) (pointer_in new) pool.own.seq new.own.seq (let same = s.seq in omega (arith, same)) (λ object pointer at. sym (s.objects object) ∙ at) w.point);
         behind = λ own m shard is at. w.behind own m shard (ap (λ (u : Uber A). (ubers.point_of u).group) (sym s.uber) ∙ is) (was_at m shard at);

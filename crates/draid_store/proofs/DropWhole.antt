@@ -33,7 +33,9 @@ use Rattle.draid_pool.specs.Threads.{AllStay, IsWholeBy}
 use Rattle.draid_pool.proofs.Lists.{some_of}
 use Rattle.draid_pool.proofs.OwnedKnows.{all, left_in, table_in}
 use Rattle.draid_pool.proofs.OwnedStands.{whole_left}
+use Rattle.draid_pool.proofs.Nears.{near_kept}
 use Rattle.draid_pool.proofs.Wholes.{open_low, put_elsewhere, put_here}
+use Rattle.draid_store.proofs.FreeWhole.{near_open}
 use Rattle.draid_store.specs.Freeing.{IsApart, IsWholeBeside}
 use Rattle.draid_store.specs.Pointers.{TriesTake}
 use Rattle.draid_store.specs.Storing.{ComesBack, IsNewPointer, StoreSetsTable, StoresNew}
@@ -254,6 +256,10 @@ module _ {R A : Type 0} (rack : racks.Ghosts R) (area : areas.Ghosts A) (pool : 
     objects = λ o q at. (let is = w.objects o q (from o q at) in record { object_is = is.object_is; shard = is.shard; there = is.there; live = is.live });
     floor = (let high = group_high in let floor = d.floor in let kept_is = ap group_of d.uber_is.kept in omega (arith, high, floor, kept_is));
     low = (let low = group_low in let floor = d.floor in omega (arith, low, floor));
+    near = elim (near_open group d.shard.open_group pool.own.floor d.shard.open_group d.group_is (omega arith)) [
+      | inl less ↦ near_kept pool.own.floor own.floor (slice_get pool.metaslabs.shards.items) (slice_get pool.metaslabs.shards.items) (let floor = d.floor in omega (arith, floor, less)) (λ k z at. (z, at, omega arith)) w.near
+      | inr up ↦ record { metaslab = p.metaslab; shard = d.shard; there = d.there; near = (let floor = d.floor in omega (arith, floor, up)) }
+    ];
     point = subst (PointFits 0 (point_of uber) table) (sym d.seq)
         (fits_dropped (point_of pool.uber) (point_of uber) table pool.own.seq group p d.uber_is.drops held.0 held.1 other begun fits);
     behind = λ n m shard is at. w.behind n m shard (sym d.uber_is.drops.group_is ∙ is) at;

@@ -28,9 +28,9 @@ use Rattle.draid_pool.proofs.HoldStep.{live_key}
 use Rattle.draid_pool.proofs.ShardSteps.{live_on, other_key, pointer_on}
 use Rattle.draid_pool.proofs.Wholes.{open_high, open_low, put_elsewhere, put_here}
 
--- the later one of the open group and a floor is that, or near the committed group
-pub near_open : (group open_group floor committed : ℕ) → group ≡ max open_group floor → open_group ≤ committed + 2 → (group ≤ floor) ⊎ (group ≤ committed + 2)
-near_open group open_group floor committed is high = elim (cases_lt open_group floor) [
+-- the later one of the open group and a floor is that, or at most the group that is open now
+pub near_open : (group open_group floor now : ℕ) → group ≡ max open_group floor → open_group ≤ now → (group ≤ floor) ⊎ (group ≤ now)
+near_open group open_group floor now is high = elim (cases_lt open_group floor) [
   | inl less ↦ inl (omega (arith, is, less))
   | inr from ↦ inr (omega (arith, is, from, high))
 ]
@@ -58,7 +58,7 @@ module _ {R A : Type 0} (rack : racks.Ghosts R) (area : areas.Ghosts A) (shared 
     committed : owns groups_number ≡ true → after.committed ≡ shard.committed
     committed own = groups.groups.committed ∙ (drifts.groups own).groups.committed
 
-    whole_then : (table' : ℕ → Option Pointer) (group : ℕ) → IsHeldBy rack (all_of owns p.metaslab) seq after → (group ≤ floor) ⊎ (group ≤ after.committed + 2) → group ≤ LAST_NUMBER
+    whole_then : (table' : ℕ → Option Pointer) (group : ℕ) → IsHeldBy rack (all_of owns p.metaslab) seq after → (group ≤ floor) ⊎ (group ≤ after.open_group) → group ≤ LAST_NUMBER
         → ((q : ℕ) (r : Pointer) → table' q ≡ Some r → HasPointer last rack owns q r × (IsLive before r → IsLive after r)) → IsWholeBy rack owns new table' seq group
     whole_then table' group now near low pointers = whole_on owns rack area shared last new p.metaslab shard before after there drifts keeps.part groups is keeps.valid (all_of owns) (all_of owns) table table' seq floor seq group whole now (λ n k not seen. seen) (omega arith) near low pointers
 
@@ -75,7 +75,7 @@ module _ {R A : Type 0} (rack : racks.Ghosts R) (area : areas.Ghosts A) (shared 
           numbered = λ e e_is seen. (whole.shards p.metaslab has.shard has.there).numbered (key_of p) (held_at (staged stage.Live p)) own_key (key_leads has.shard.entries p.first (staged stage.Live p) has.live);
           settled = λ e e_is seen. ap (λ (i : Entry). is_block i.stage) (some_of freed e (staged (stage.Freed group) p) e_is refl);
         }))
-        (near_open group before.open_group floor after.committed fb.group_is (let high = open_low before.open_group before.closing before.committed before.sealed drifts.valid.groups in let stays = groups.groups.committed in omega (arith, high, stays))) fb.low
+        (near_open group before.open_group floor after.open_group fb.group_is (let stays = groups.groups.open_group_is in omega (arith, stays))) fb.low
         (λ q r r_is. (let h = others q r r_is in
         (h.0, live_key rack before after r drifts.valid keeps.valid keeps.part (fb.sets.entry.held (key_of r) ∙ held_other (held_in before.entries) (key_of p) (key_of r) (option_map held_at freed) h.1))))
       where

@@ -45,7 +45,7 @@ module _ {R A : Type 0} (rack : racks.Ghosts R) (area : areas.Ghosts A) (shared 
     held_found : IsHeldBy rack (mine m) seq before
     held_found = held_drifts rack (mine m) seq shard before drifts.valid (whole.shards m shard there) owns before.committed inside drifts.own
 
-    pub whole_then : IsHeldBy rack (then_mine m) then_seq after → ((n : ℕ) (k : Key) → (n ≡ m → ⊥) → then_mine n k ≡ true → mine n k ≡ true) → seq ≤ then_seq → (then_floor ≤ floor) ⊎ (then_floor ≤ after.committed + 2) → then_floor ≤ LAST_NUMBER
+    pub whole_then : IsHeldBy rack (then_mine m) then_seq after → ((n : ℕ) (k : Key) → (n ≡ m → ⊥) → then_mine n k ≡ true → mine n k ≡ true) → seq ≤ then_seq → (then_floor ≤ floor) ⊎ (then_floor ≤ after.open_group) → then_floor ≤ LAST_NUMBER
         → ((q : Pointer) → IsLive before q → IsLive after q) → IsWholeBut rack owns then_mine new table then_seq then_floor
     whole_then held others later near low live = whole_on owns rack area shared last new m shard before after there drifts part groups is valid mine then_mine table table seq floor then_seq then_floor whole held others later near low
         (λ o q at. (whole.pointers o q at, live q))
@@ -81,10 +81,7 @@ module _ {R A : Type 0} (rack : racks.Ghosts R) (area : areas.Ghosts A) (shared 
       b.did.1.opens.enters.entry (λ k other seen. but_inside (all_of owns) m (key_of ticket.pointer) m k seen)
       (record { numbered = λ e e_is seen. absurd (hidden owns m (key_of ticket.pointer) seen); settled = λ e e_is seen. absurd (hidden owns m (key_of ticket.pointer) seen) }))
       (λ n k not seen. but_inside (all_of owns) m (key_of ticket.pointer) n k seen) (omega arith)
-      (near_open ticket.pointer.birth before.open_group floor after.committed b.did.1.opens.named.birth_is (
-      let same = g.groups.committed in
-      let high = open_low before.open_group before.closing before.committed before.sealed drifts.valid.groups in
-      omega (arith, same, high)))
+      (near_open ticket.pointer.birth before.open_group floor after.open_group b.did.1.opens.named.birth_is (let same = g.groups.open_group_is in omega (arith, same)))
       (let birth = b.did.1.opens.named.birth_is in let low = b.did.1.low in omega (arith, birth, low))
       (λ q live. live_begin rack area before after object (seq + 1) floor block (Some (Ok ticket)) q drifts.valid b live)
     where

@@ -45,7 +45,7 @@ module _ {R A : Type 0} (rack : racks.Ghosts R) (area : areas.Ghosts A) where
   ready_ready shared owns own shard x d may = record { valid = d.valid; rebuild = rebuild_kept shard.pass x.pass (d.passes own) may.rebuild }
 
   pub ready_quiet : (owns : ℕ → Bool) (runs : Bool) (x y : Shard R A) → ReadiesIn rack area runs x y → KeepsQuiet rack owns x y
-  ready_quiet owns runs x y r = record { keeps = record { valid = r.valid; part = r.part; entries = record { each = λ key own. inl (r.blocks.entries.held key) } }; committed = r.blocks.groups.committed }
+  ready_quiet owns runs x y r = record { keeps = record { valid = r.valid; part = r.part; opens = (let same = r.blocks.groups.open_group_is in omega (arith, same)); entries = record { each = λ key own. inl (r.blocks.entries.held key) } }; committed = r.blocks.groups.committed }
 
 module _ {R A S : Type 0} (rack : racks.Ghosts R) (area : areas.Ghosts A) (last : S → ℕ → Option (Shard R A)) (went : S → ℕ → Shard R A → Shard R A → S → Type 0) (shared : Bool) (owns : ℕ → Bool) (own : owns groups_number ≡ true) (count : ℕ) where
   -- what a sync needs is there behind the hold

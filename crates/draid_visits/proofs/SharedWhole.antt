@@ -1,5 +1,5 @@
 -- A pool is whole yet where one of its metaslabs kept its blocks, and its arms but for whether a pass has made them good.
-use Rattle.std.proofs.Common.{◌≡◌, ◌<◌, ◌∙◌, inl, inr, ℕ, List, Some, arith, sym, ap, subst, length}
+use Rattle.std.proofs.Common.{◌≡◌, ◌<◌, ◌≤◌, ◌∙◌, inl, inr, ℕ, List, Some, arith, sym, ap, subst, length}
 use Rattle.std.specs.Prelude.{nat_eq, slice_get}
 use Rattle.std.specs.HashMap.{get}
 use Rattle.std.proofs.lemmas.Bool.{cases_eq}
@@ -24,6 +24,7 @@ use Rattle.draid_pool.proofs.Lifted.{SetsShard}
 use Rattle.draid_pool.proofs.Lists.{get_set_other, get_set_same, some_of}
 use Rattle.draid_pool.proofs.Versions.{same_uber_layout}
 use Rattle.draid_visits.specs.Steps.{SharesTable}
+use Rattle.draid_pool.proofs.Nears.{near_kept}
 use Rattle.draid_pool.proofs.Wholes.{fits_on}
 
 -- ---- arms
@@ -121,6 +122,15 @@ module _ {R A : Type 0} (rack : racks.Ghosts R) (area : areas.Ghosts A) (m : ℕ
     | inr other ↦ w.behind group k z is (sym (at_other k other) ∙ there)
   ]
 
+  stays : (k : ℕ) (z : Shard R A) → slice_get pool.metaslabs.shards.items k ≡ Some z → (now : Shard R A) × (slice_get new.metaslabs.shards.items k ≡ Some now) × (z.open_group ≤ now.open_group)
+  stays k z at = elim (cases_eq k m) [
+    | inl same ↦
+        let was = ap (λ (q : Shard R A). q.open_group) (some_of (slice_get pool.metaslabs.shards.items m) shard z set.there (subst (λ j. slice_get pool.metaslabs.shards.items j ≡ Some z) same at)) in
+        let opens = table.opens in
+        (after, ap (slice_get new.metaslabs.shards.items) same ∙ at_here, omega (arith, was, opens))
+    | inr other ↦ (z, at_other k other ∙ at, omega arith)
+  ]
+
   pub whole_shared : IsWhole rack area new
   whole_shared = record {
     perms = w.perms;
@@ -133,6 +143,7 @@ module _ {R A : Type 0} (rack : racks.Ghosts R) (area : areas.Ghosts A) (m : ℕ
     objects = λ object q at. pointer object q (w.objects object q (ap (λ os. get nat_eq os object) (sym set.objects) ∙ at));
     floor = (let fits = w.floor in let same = set.floor in let group = ap (λ u. group_of (kept_of u)) set.uber in omega (arith, fits, same, group));
     low = (let low = w.low in let same = set.floor in omega (arith, low, same));
+    near = near_kept pool.own.floor new.own.floor (slice_get pool.metaslabs.shards.items) (slice_get new.metaslabs.shards.items) (let same = set.floor in omega (arith, same)) stays w.near;
     point = subst (λ u. PointFits 0 (ubers.point_of u) (get nat_eq new.own.objects) new.own.seq) (sym set.uber)
         (fits_on 0 (ubers.point_of pool.uber) (get nat_eq pool.own.objects) (get nat_eq new.own.objects) pool.own.seq new.own.seq (let same = set.seq in omega (arith, same)) (λ o q at. sym (ap (λ os. get nat_eq os o) set.objects) ∙ at) w.point);
     behind = λ group k z is there. behind k z there group (ap (λ u. (ubers.point_of u).group) (sym set.uber) ∙ is);

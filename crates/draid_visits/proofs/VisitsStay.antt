@@ -1,5 +1,5 @@
 -- What a thread needs that visits metaslabs it has behind each hold of a visit, and behind the syncs for which a rebuild waits.
-use Rattle.std.proofs.Common.{◌≡◌, ◌<◌, ◌≤◌, ◌+◌, ◌∙◌, inl, ℕ, zero, suc, Bool, true, false, Option, Some, None, Ok, Err, refl, sym, ap, subst}
+use Rattle.std.proofs.Common.{◌≡◌, ◌<◌, ◌≤◌, ◌+◌, ◌∙◌, inl, arith, ℕ, zero, suc, Bool, true, false, Option, Some, None, Ok, Err, refl, sym, ap, subst}
 use Rattle.std.specs.Prelude.{IfOk, IfSome, IsSomeAnd, OnOk, Result}
 use Rattle.draid_names.specs.declared.pass_kind.PassKind.{PassKind}
 use Rattle.draid_names.specs.declared.pass_kind.PassKind.TheVariants.{Heal, Rebuild}
@@ -89,7 +89,7 @@ module _ {R A : Type 0} (rack : racks.Ghosts R) (area : areas.Ghosts A) where
   }
 
   pub quiet_by : (owns : ℕ → Bool) (x y : Shard R A) → Valid rack y → part_of y ≡ part_of x → KeepsBlocks x y → KeepsQuiet rack owns x y
-  quiet_by owns x y valid part blocks = record { keeps = record { valid = valid; part = part; entries = record { each = λ key own. inl (blocks.entries.held key) } }; committed = blocks.groups.committed }
+  quiet_by owns x y valid part blocks = record { keeps = record { valid = valid; part = part; opens = (let same = blocks.groups.open_group_is in omega (arith, same)); entries = record { each = λ key own. inl (blocks.entries.held key) } }; committed = blocks.groups.committed }
 
   -- the beginning of a visit
   starts_for : (kind : PassKind) (x y : Shard R A) (came : Result ℕ PlanFault) → StartsIn rack area kind x came y → KeptFor kind x y

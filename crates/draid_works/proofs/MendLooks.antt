@@ -47,7 +47,7 @@ use Rattle.draid_works.proofs.MendFar.{none_look}
 
 -- a hold that changed nothing
 same_quiet : {R A : Type 0} (rack : racks.Ghosts R) (owns : ℕ → Bool) (before after : Shard R A) → Valid rack before → after ≡ before → KeepsQuiet rack owns before after
-same_quiet rack owns before after valid same = subst (KeepsQuiet rack owns before) (sym same) (record { keeps = record { valid = valid; part = refl; entries = record { each = λ key own. inl refl } }; committed = refl })
+same_quiet rack owns before after valid same = subst (KeepsQuiet rack owns before) (sym same) (record { keeps = record { valid = valid; part = refl; opens = omega arith; entries = record { each = λ key own. inl refl } }; committed = refl })
 
 module _ {R A G W : Type 0} (rack : racks.Ghosts R) (area : areas.Ghosts A) (x : State) (owns : ℕ → Bool) (own : owns groups_number ≡ true) (old : Locked R A G W) where
   -- So far it only looked, and had a turn of each metaslab's lock.

@@ -27,7 +27,7 @@ use Rattle.draid_works.proofs.MendSteps.{mends_keeps}
 
 -- a hold that leaves blocks and groups is quiet
 pub leaves_quiet : {R A : Type 0} (rack : racks.Ghosts R) (area : areas.Ghosts A) (owns : ℕ → Bool) (x y : Shard R A) → Leaves rack area x y → KeepsQuiet rack owns x y
-leaves_quiet rack area owns x y l = record { keeps = record { valid = l.valid; part = l.part; entries = record { each = λ key own. inl (l.held key) } }; committed = l.groups.groups.committed }
+leaves_quiet rack area owns x y l = record { keeps = record { valid = l.valid; part = l.part; opens = (let same = l.groups.groups.open_group_is in omega (arith, same)); entries = record { each = λ key own. inl (l.held key) } }; committed = l.groups.groups.committed }
 
 -- ---- what every hold keeps that leaves what a thread has of its own
 
