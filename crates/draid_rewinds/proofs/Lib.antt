@@ -1,0 +1,16 @@
+pub mod Others
+pub mod NewestBorn
+pub mod Swept
+pub mod Marking
+pub mod Forgotten
+pub mod Letting
+pub mod Backing
+pub mod WholeThen
+pub mod Settled
+pub mod GivenUp
+pub mod Going
+pub mod Made
+pub mod Comes
+pub mod Taken
+pub mod Whys
+pub mod Stopped
