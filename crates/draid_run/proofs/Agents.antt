@@ -43,7 +43,7 @@ use Rattle.draid_run.specs.Repairing.{AgentActs, AgentDid, AgentIs, AgentSays, I
 use Rattle.draid_run.specs.Serve.{AnswerIs, IsSaid}
 use Rattle.draid_run.specs.declared.answer.Stop.{Stop}
 use Rattle.draid_run.specs.declared.answer.Stop.TheVariants as stop
-use Rattle.draid_run.proofs.Steps.{ask_breaks, broke_open, still_out}
+use Rattle.draid_run.proofs.Steps.{ask_breaks, breaks_same, broke_open, still_out}
 
 -- what is behind the same entries is the same
 same_behind : (past cs bs : List Entry) → past ++ cs ≡ past ++ bs → cs ≡ bs
@@ -315,7 +315,7 @@ module _ {R A : Type 0} (rack : racks.Ghosts R) (area : areas.Ghosts A) (spare :
     pub agent_breaks : desk ≡ Some pool → IsWhole rack area new → SamePointers pool new → AreaFails area.faults new → (failed : Failed)
         → ((x : State) → Represents rack area pool x → CarriesOut rack area new x (AgentSays x spare least past (Err failed) after)) → (x : Desk) → IsPool rack area desk x → PoolBroke rack area (RunAgent least) x (Some new)
     agent_breaks is whole same fails failed step =
-        broke_open rack area (RunAgent least) desk pool new is whole (tt, inl fails, same)
+        broke_open rack area (RunAgent least) desk pool new is whole (tt, inl fails, breaks_same (RunAgent least) pool new same)
         (λ x r. carries_so rack area new x (AgentSays x spare least past (Err failed) after) (BreaksBy x (RunAgent least)) (step x r) (broke x failed))
 
 module _ {R A : Type 0} (rack : racks.Ghosts R) (area : areas.Ghosts A) (spare : ℕ → ℕ → List ℕ → Option ℕ → Type 0) (least : ℕ) (past : List Entry) (desk : Option (Pool R A)) where

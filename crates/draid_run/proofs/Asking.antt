@@ -30,6 +30,7 @@ use Rattle.draid_changes.specs.UpgradeSays.{UpgradeSays}
 use Rattle.draid_store.specs.Says.{DamageSays, FreeSays, ReadSays, SumSays}
 use Rattle.draid_status.specs.Says.{StatusSays}
 use Rattle.draid_visits.specs.Says.{CancelSays, RebuildSays, ScrubSays}
+use Rattle.draid_rewinds.specs.Says.{DiscardSays, RewindSays, TakeSays}
 use Rattle.draid_run.specs.Rebalancing.{RebalanceSays}
 use Rattle.draid_run.specs.Script.{IsUnbuilt}
 use Rattle.draid_run.specs.Serve.{AnswerIs, AskIs, IsSaid, opened_by}
@@ -37,6 +38,7 @@ use Rattle.draid_pool.specs.Shelves.{OnShelf}
 use Rattle.draid_run.specs.Shelves.{MayFind}
 use Rattle.draid_run.specs.declared.answer.Stop.{Stop}
 use Rattle.draid_run.specs.declared.answer.Stop.TheVariants as stop
+use Rattle.draid_run.proofs.Checks.{discard_does, rewind_does, take_does}
 use Rattle.draid_run.proofs.Runs.{ask_notes}
 use Rattle.draid_run.proofs.Said.{cancel_does, rebalance_does, rebuild_does, scrub_does, damage_does, detach_does, free_does, read_does, spare_does, status_does, sum_does, switch_does, switch_line, sync_does, upgrade_does, replace_does}
 use Rattle.draid_run.proofs.Steps.{ask_breaks, by_ask, by_create}
@@ -75,9 +77,9 @@ asked_built UpgradePool called is none = none
 asked_built (OpenLanes count) called is none = absurd (cc is)
 asked_built (RunAgent least) called is none = absurd (cc is)
 asked_built ShowJournal called is none = absurd (cc is)
-asked_built TakeCheckpoint called is none = absurd (cc is)
-asked_built RewindPool called is none = absurd (cc is)
-asked_built DiscardCheckpoint called is none = absurd (cc is)
+asked_built TakeCheckpoint called is none = none
+asked_built RewindPool called is none = none
+asked_built DiscardCheckpoint called is none = none
 
 module _ {R A : Type 0} (rack : racks.Ghosts R) (area : areas.Ghosts A) (choices : Choices) (past : List Entry) (entry now : OnShelf) (pool : Option (Pool R A)) (x : Desk) (is : IsDesk rack area entry now pool x) (command : Command)
     (unbuilt : asked_in command ≡ None → IsUnbuilt command) (new : Option (Pool R A)) where
@@ -139,36 +141,39 @@ pub asks_nothing : (line : Line) → ((object : ℕ) (bytes : Vec ℕ Global) �
     → (line ≡ variant.Cancel → ⊥)
     → ((slot : ℕ) → line ≡ variant.Rebalance slot → ⊥)
     → (line ≡ variant.Sync → ⊥)
+    → (line ≡ variant.Checkpoint → ⊥)
+    → (line ≡ variant.Rewind → ⊥)
+    → (line ≡ variant.Discard → ⊥)
     → asked_in (command_in line) ≡ None
-asks_nothing variant.Nothing write fill read free sum offline online damage spare replace status detach upgrade rebuild scrub cancel rebalance sync = refl
-asks_nothing (variant.Create spec children keys) write fill read free sum offline online damage spare replace status detach upgrade rebuild scrub cancel rebalance sync = refl
-asks_nothing variant.Import write fill read free sum offline online damage spare replace status detach upgrade rebuild scrub cancel rebalance sync = refl
-asks_nothing variant.Export write fill read free sum offline online damage spare replace status detach upgrade rebuild scrub cancel rebalance sync = refl
-asks_nothing variant.Sync write fill read free sum offline online damage spare replace status detach upgrade rebuild scrub cancel rebalance sync = absurd (sync refl)
-asks_nothing variant.Cancel write fill read free sum offline online damage spare replace status detach upgrade rebuild scrub cancel rebalance sync = absurd (cancel refl)
-asks_nothing variant.Crash write fill read free sum offline online damage spare replace status detach upgrade rebuild scrub cancel rebalance sync = refl
-asks_nothing (variant.Write object bytes) write fill read free sum offline online damage spare replace status detach upgrade rebuild scrub cancel rebalance sync = absurd (write object bytes refl)
-asks_nothing (variant.Fill first count len seed) write fill read free sum offline online damage spare replace status detach upgrade rebuild scrub cancel rebalance sync = absurd (fill first count len seed refl)
-asks_nothing (variant.Read object) write fill read free sum offline online damage spare replace status detach upgrade rebuild scrub cancel rebalance sync = absurd (read object refl)
-asks_nothing (variant.Free object) write fill read free sum offline online damage spare replace status detach upgrade rebuild scrub cancel rebalance sync = absurd (free object refl)
-asks_nothing (variant.Sum first count) write fill read free sum offline online damage spare replace status detach upgrade rebuild scrub cancel rebalance sync = absurd (sum first count refl)
-asks_nothing (variant.Offline leaf) write fill read free sum offline online damage spare replace status detach upgrade rebuild scrub cancel rebalance sync = absurd (offline leaf refl)
-asks_nothing (variant.Online leaf) write fill read free sum offline online damage spare replace status detach upgrade rebuild scrub cancel rebalance sync = absurd (online leaf refl)
-asks_nothing (variant.Damage leaf sector) write fill read free sum offline online damage spare replace status detach upgrade rebuild scrub cancel rebalance sync = absurd (damage leaf sector refl)
-asks_nothing (variant.Spare slot number) write fill read free sum offline online damage spare replace status detach upgrade rebuild scrub cancel rebalance sync = absurd (spare slot number refl)
-asks_nothing (variant.Replace slot sectors) write fill read free sum offline online damage spare replace status detach upgrade rebuild scrub cancel rebalance sync = absurd (replace slot sectors refl)
-asks_nothing (variant.Detach arm) write fill read free sum offline online damage spare replace status detach upgrade rebuild scrub cancel rebalance sync = absurd (detach arm refl)
-asks_nothing (variant.Rebuild limit) write fill read free sum offline online damage spare replace status detach upgrade rebuild scrub cancel rebalance sync = absurd (rebuild limit refl)
-asks_nothing (variant.Scrub limit) write fill read free sum offline online damage spare replace status detach upgrade rebuild scrub cancel rebalance sync = absurd (scrub limit refl)
-asks_nothing (variant.Rebalance slot) write fill read free sum offline online damage spare replace status detach upgrade rebuild scrub cancel rebalance sync = absurd (rebalance slot refl)
-asks_nothing (variant.Status form) write fill read free sum offline online damage spare replace status detach upgrade rebuild scrub cancel rebalance sync = absurd (status form refl)
-asks_nothing (variant.Lanes count) write fill read free sum offline online damage spare replace status detach upgrade rebuild scrub cancel rebalance sync = refl
-asks_nothing variant.Upgrade write fill read free sum offline online damage spare replace status detach upgrade rebuild scrub cancel rebalance sync = absurd (upgrade refl)
-asks_nothing (variant.Agent least) write fill read free sum offline online damage spare replace status detach upgrade rebuild scrub cancel rebalance sync = refl
-asks_nothing variant.AgentLog write fill read free sum offline online damage spare replace status detach upgrade rebuild scrub cancel rebalance sync = refl
-asks_nothing variant.Checkpoint write fill read free sum offline online damage spare replace status detach upgrade rebuild scrub cancel rebalance sync = refl
-asks_nothing variant.Rewind write fill read free sum offline online damage spare replace status detach upgrade rebuild scrub cancel rebalance sync = refl
-asks_nothing variant.Discard write fill read free sum offline online damage spare replace status detach upgrade rebuild scrub cancel rebalance sync = refl
+asks_nothing variant.Nothing write fill read free sum offline online damage spare replace status detach upgrade rebuild scrub cancel rebalance sync checkpoint rewind discard = refl
+asks_nothing (variant.Create spec children keys) write fill read free sum offline online damage spare replace status detach upgrade rebuild scrub cancel rebalance sync checkpoint rewind discard = refl
+asks_nothing variant.Import write fill read free sum offline online damage spare replace status detach upgrade rebuild scrub cancel rebalance sync checkpoint rewind discard = refl
+asks_nothing variant.Export write fill read free sum offline online damage spare replace status detach upgrade rebuild scrub cancel rebalance sync checkpoint rewind discard = refl
+asks_nothing variant.Sync write fill read free sum offline online damage spare replace status detach upgrade rebuild scrub cancel rebalance sync checkpoint rewind discard = absurd (sync refl)
+asks_nothing variant.Cancel write fill read free sum offline online damage spare replace status detach upgrade rebuild scrub cancel rebalance sync checkpoint rewind discard = absurd (cancel refl)
+asks_nothing variant.Crash write fill read free sum offline online damage spare replace status detach upgrade rebuild scrub cancel rebalance sync checkpoint rewind discard = refl
+asks_nothing (variant.Write object bytes) write fill read free sum offline online damage spare replace status detach upgrade rebuild scrub cancel rebalance sync checkpoint rewind discard = absurd (write object bytes refl)
+asks_nothing (variant.Fill first count len seed) write fill read free sum offline online damage spare replace status detach upgrade rebuild scrub cancel rebalance sync checkpoint rewind discard = absurd (fill first count len seed refl)
+asks_nothing (variant.Read object) write fill read free sum offline online damage spare replace status detach upgrade rebuild scrub cancel rebalance sync checkpoint rewind discard = absurd (read object refl)
+asks_nothing (variant.Free object) write fill read free sum offline online damage spare replace status detach upgrade rebuild scrub cancel rebalance sync checkpoint rewind discard = absurd (free object refl)
+asks_nothing (variant.Sum first count) write fill read free sum offline online damage spare replace status detach upgrade rebuild scrub cancel rebalance sync checkpoint rewind discard = absurd (sum first count refl)
+asks_nothing (variant.Offline leaf) write fill read free sum offline online damage spare replace status detach upgrade rebuild scrub cancel rebalance sync checkpoint rewind discard = absurd (offline leaf refl)
+asks_nothing (variant.Online leaf) write fill read free sum offline online damage spare replace status detach upgrade rebuild scrub cancel rebalance sync checkpoint rewind discard = absurd (online leaf refl)
+asks_nothing (variant.Damage leaf sector) write fill read free sum offline online damage spare replace status detach upgrade rebuild scrub cancel rebalance sync checkpoint rewind discard = absurd (damage leaf sector refl)
+asks_nothing (variant.Spare slot number) write fill read free sum offline online damage spare replace status detach upgrade rebuild scrub cancel rebalance sync checkpoint rewind discard = absurd (spare slot number refl)
+asks_nothing (variant.Replace slot sectors) write fill read free sum offline online damage spare replace status detach upgrade rebuild scrub cancel rebalance sync checkpoint rewind discard = absurd (replace slot sectors refl)
+asks_nothing (variant.Detach arm) write fill read free sum offline online damage spare replace status detach upgrade rebuild scrub cancel rebalance sync checkpoint rewind discard = absurd (detach arm refl)
+asks_nothing (variant.Rebuild limit) write fill read free sum offline online damage spare replace status detach upgrade rebuild scrub cancel rebalance sync checkpoint rewind discard = absurd (rebuild limit refl)
+asks_nothing (variant.Scrub limit) write fill read free sum offline online damage spare replace status detach upgrade rebuild scrub cancel rebalance sync checkpoint rewind discard = absurd (scrub limit refl)
+asks_nothing (variant.Rebalance slot) write fill read free sum offline online damage spare replace status detach upgrade rebuild scrub cancel rebalance sync checkpoint rewind discard = absurd (rebalance slot refl)
+asks_nothing (variant.Status form) write fill read free sum offline online damage spare replace status detach upgrade rebuild scrub cancel rebalance sync checkpoint rewind discard = absurd (status form refl)
+asks_nothing (variant.Lanes count) write fill read free sum offline online damage spare replace status detach upgrade rebuild scrub cancel rebalance sync checkpoint rewind discard = refl
+asks_nothing variant.Upgrade write fill read free sum offline online damage spare replace status detach upgrade rebuild scrub cancel rebalance sync checkpoint rewind discard = absurd (upgrade refl)
+asks_nothing (variant.Agent least) write fill read free sum offline online damage spare replace status detach upgrade rebuild scrub cancel rebalance sync checkpoint rewind discard = refl
+asks_nothing variant.AgentLog write fill read free sum offline online damage spare replace status detach upgrade rebuild scrub cancel rebalance sync checkpoint rewind discard = refl
+asks_nothing variant.Checkpoint write fill read free sum offline online damage spare replace status detach upgrade rebuild scrub cancel rebalance sync checkpoint rewind discard = absurd (checkpoint refl)
+asks_nothing variant.Rewind write fill read free sum offline online damage spare replace status detach upgrade rebuild scrub cancel rebalance sync checkpoint rewind discard = absurd (rewind refl)
+asks_nothing variant.Discard write fill read free sum offline online damage spare replace status detach upgrade rebuild scrub cancel rebalance sync checkpoint rewind discard = absurd (discard refl)
 
 -- and nothing of the shelf: its command is beyond what is built
 pub is_unbuilt : (line : Line) → (line ≡ variant.Nothing → ⊥)
@@ -205,9 +210,9 @@ is_unbuilt (variant.Lanes count) nothing create opens export crash agent log alo
 is_unbuilt variant.Upgrade nothing create opens export crash agent log alone none = absurd (cc none)
 is_unbuilt (variant.Agent least) nothing create opens export crash agent log alone none = absurd (agent least refl)
 is_unbuilt variant.AgentLog nothing create opens export crash agent log alone none = absurd (log refl)
-is_unbuilt variant.Checkpoint nothing create opens export crash agent log alone none = tt
-is_unbuilt variant.Rewind nothing create opens export crash agent log alone none = tt
-is_unbuilt variant.Discard nothing create opens export crash agent log alone none = tt
+is_unbuilt variant.Checkpoint nothing create opens export crash agent log alone none = absurd (cc none)
+is_unbuilt variant.Rewind nothing create opens export crash agent log alone none = absurd (cc none)
+is_unbuilt variant.Discard nothing create opens export crash agent log alone none = absurd (cc none)
 
 -- ---- what a pool replies, by the line
 
@@ -247,6 +252,15 @@ module _ {R A : Type 0} (rack : racks.Ghosts R) (area : areas.Ghosts A) (choices
 
   pub replied_sync : (said : Result Reply Failed) → line ≡ variant.Sync → CarriesOut rack area pool x (SyncSays said x) → CarriesOut rack area pool x (AnswerDoes x choices (command_in line) said)
   replied_sync said is c = carried SyncPool (SyncSays said x) said (ap command_in is) (λ holds store. sync_does x choices said holds store) c
+
+  pub replied_take : (said : Result Reply Failed) → line ≡ variant.Checkpoint → CarriesOut rack area pool x (TakeSays said x) → CarriesOut rack area pool x (AnswerDoes x choices (command_in line) said)
+  replied_take said is c = carried TakeCheckpoint (TakeSays said x) said (ap command_in is) (λ holds store. take_does x choices said holds store) c
+
+  pub replied_rewind : (said : Result Reply Failed) → line ≡ variant.Rewind → CarriesOut rack area pool x (RewindSays said x) → CarriesOut rack area pool x (AnswerDoes x choices (command_in line) said)
+  replied_rewind said is c = carried RewindPool (RewindSays said x) said (ap command_in is) (λ holds store. rewind_does x choices said holds store) c
+
+  pub replied_discard : (said : Result Reply Failed) → line ≡ variant.Discard → CarriesOut rack area pool x (DiscardSays said x) → CarriesOut rack area pool x (AnswerDoes x choices (command_in line) said)
+  replied_discard said is c = carried DiscardCheckpoint (DiscardSays said x) said (ap command_in is) (λ holds store. discard_does x choices said holds store) c
 
   pub replied_upgrade : (said : Result Reply Failed) → line ≡ variant.Upgrade → CarriesOut rack area pool x (UpgradeSays said x) → CarriesOut rack area pool x (AnswerDoes x choices (command_in line) said)
   replied_upgrade said is c = carried UpgradePool (UpgradeSays said x) said (ap command_in is) (λ holds store. upgrade_does x choices said holds store) c

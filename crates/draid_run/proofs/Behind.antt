@@ -1,7 +1,7 @@
 -- Which replies leave the pool open.
 use Rattle.std.proofs.Common.{◌≡◌, refl, Some}
 use Rattle.std.specs.Prelude.{⊤}
-use Rattle.draid_script.specs.Line.{Command, SyncPool, WriteObject, FillObjects, ReadObject, FreeObject, SumObjects, TakeOffline, TakeOnline, DamageSector, AttachSpare, ShowStatus, DetachArm, UpgradePool, RebuildPool, ScrubPool, RebalanceSlot, ReplaceDisk, CancelPasses}
+use Rattle.draid_script.specs.Line.{Command, SyncPool, WriteObject, FillObjects, ReadObject, FreeObject, SumObjects, TakeOffline, TakeOnline, DamageSector, AttachSpare, ShowStatus, DetachArm, UpgradePool, RebuildPool, ScrubPool, RebalanceSlot, ReplaceDisk, CancelPasses, TakeCheckpoint, RewindPool, DiscardCheckpoint}
 use Rattle.draid_script.specs.declared.name.CommandName.{CommandName}
 use Rattle.draid_reply.specs.declared.reply.Reply.{Reply}
 use Rattle.draid_reply.specs.declared.reply.Reply.TheVariants.{Crashed, Exported}
@@ -82,4 +82,13 @@ asked_keeps UpgradePool called reply asked is = tt
 asked_keeps SyncPool called (Exported group) asked is = absurd is
 asked_keeps SyncPool called Crashed asked is = absurd is
 asked_keeps SyncPool called reply asked is = tt
+asked_keeps TakeCheckpoint called (Exported group) asked is = absurd is
+asked_keeps TakeCheckpoint called Crashed asked is = absurd is
+asked_keeps TakeCheckpoint called reply asked is = tt
+asked_keeps RewindPool called (Exported group) asked is = absurd is
+asked_keeps RewindPool called Crashed asked is = absurd is
+asked_keeps RewindPool called reply asked is = tt
+asked_keeps DiscardCheckpoint called (Exported group) asked is = absurd is
+asked_keeps DiscardCheckpoint called Crashed asked is = absurd is
+asked_keeps DiscardCheckpoint called reply asked is = tt
 asked_keeps command called reply asked is = absurd (cc asked)

@@ -109,7 +109,7 @@ module _ {R A : Type 0} (rack : racks.Ghosts R) (area : areas.Ghosts A) (choices
     by Unknown turns = absurd (cc (turns.0))
     by (Foreign known) turns =
         let same : did.new ≡ Foreign known = stays_foreign turns.answer known did.new turns.reply_is turns.new_is in
-        record { new = Foreign known; desk = subst (λ d. IsDesk rack area entry now new d) same did.desk; breaks = (tt, refl); cause = inl (did.failed refl known same) }
+        record { new = Foreign known; desk = subst (λ d. IsDesk rack area entry now new d) same did.desk; breaks = (tt, (known, refl, refl)); cause = inl (did.failed refl known same) }
     by (Open y) turns =
         let l = turns.leads in
         let f = export_fails choices y l.holds l.store turns.answer turns.reply_is l.done in

@@ -4,6 +4,7 @@ pub mod Balanced
 pub mod Behind
 pub mod Booked
 pub mod Broke
+pub mod Checks
 pub mod Closings
 pub mod Crashing
 pub mod Deciding

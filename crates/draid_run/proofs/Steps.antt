@@ -1,5 +1,5 @@
 -- What the calls of a pool did, in the words of a session.
-use Rattle.std.proofs.Common.{◌≡◌, ◌⊎◌, ◌∙◌, ℕ, List, [], Option, Some, None, Ok, refl, subst, sym}
+use Rattle.std.proofs.Common.{◌≡◌, ◌⊎◌, ◌∙◌, ℕ, List, [], Option, Some, None, Ok, inl, refl, subst, sym}
 use Rattle.draid_rack.specs.declared.Rack as racks
 use Rattle.draid_area.specs.declared.Area as areas
 use Rattle.draid_script.specs.Line.{Command, Silent, CreatePool, ImportPool, ExportPool, SyncPool, CancelPasses, CrashPool, WriteObject, FillObjects, ReadObject, FreeObject, SumObjects, TakeOffline, TakeOnline, DamageSector, AttachSpare, ReplaceDisk, DetachArm, RebuildPool, ScrubPool, RebalanceSlot, ShowStatus, OpenLanes, UpgradePool, RunAgent, ShowJournal, TakeCheckpoint, RewindPool, DiscardCheckpoint}
@@ -26,7 +26,7 @@ use Rattle.draid_pool.specs.Pointers.{SamePointers}
 use Rattle.draid_pool.proofs.Taught.{still_known}
 use Rattle.draid_changes.specs.Behind.{ArmsBehind}
 use Rattle.draid_visits.specs.Behind.{PassesBehind}
-use Rattle.draid_run.specs.Desks.{BreaksBy, Broken, IsDesk, IsPool, PoolBroke, PoolDid, Turned, asked_in}
+use Rattle.draid_run.specs.Desks.{BreaksBy, BreaksKnown, Broken, IsDesk, IsPool, PoolBroke, PoolDid, Turned, asked_in}
 use Rattle.draid_run.proofs.Broke.{broken_shows}
 use Rattle.draid_pool.specs.Knows.{Teaches}
 use Rattle.draid_run.specs.Making.{CreateDid, CreateTurns}
@@ -79,9 +79,14 @@ module _ {R A : Type 0} (rack : racks.Ghosts R) (area : areas.Ghosts A) (choices
     by (Open y) stands = absurd stands
     by (Foreign known) stands = absurd stands
 
+-- where the pointers stay it is so
+pub breaks_same : {R A : Type 0} (command : Command) (old new : Pool R A) → SamePointers old new → BreaksKnown command old new
+breaks_same RewindPool old new same known knows = (known, inl refl, still_known old new same known knows)
+breaks_same command old new same known knows = (known, refl, still_known old new same known knows)
+
 -- a device of the pool failed in a command
 pub broke_open : {R A : Type 0} (rack : racks.Ghosts R) (area : areas.Ghosts A) (command : Command) (desk : Option (Pool R A)) (pool new : Pool R A) → desk ≡ Some pool → IsWhole rack area new
-    → MayBreak command × (AreaFails area.faults new ⊎ (MakesLeaves command × RackFails rack.faults new)) × SamePointers pool new → ((x : State) → Represents rack area pool x → CarriesOut rack area new x (BreaksBy x command)) → (x : Desk) → IsPool rack area desk x → PoolBroke rack area command x (Some new)
+    → MayBreak command × (AreaFails area.faults new ⊎ (MakesLeaves command × RackFails rack.faults new)) × BreaksKnown command pool new → ((x : State) → Represents rack area pool x → CarriesOut rack area new x (BreaksBy x command)) → (x : Desk) → IsPool rack area desk x → PoolBroke rack area command x (Some new)
 broke_open rack area command desk pool new is whole breaks step x = subst (λ d. IsPool rack area d x → PoolBroke rack area command x (Some new)) (sym is) (by x)
   where
     by : (x : Desk) → IsPool rack area (Some pool) x → PoolBroke rack area command x (Some new)
@@ -91,7 +96,7 @@ broke_open rack area command desk pool new is whole breaks step x = subst (λ d.
     by (Shut crash y) stands = absurd stands
     by Unknown stands = absurd stands
     by (Open y) stands = (whole, step y stands.1)
-    by (Foreign known) stands = (whole, breaks.0, breaks.1, still_known pool new breaks.2 known stands.1)
+    by (Foreign known) stands = (whole, breaks.0, breaks.1, breaks.2 known stands.1)
 
 -- so the run breaks off
 pub ask_breaks : {R A : Type 0} (rack : racks.Ghosts R) (area : areas.Ghosts A) (entry before now : OnShelf) (command : Command) (x : Desk) (desk new : Option (Pool R A)) → IsDesk rack area entry now desk x → PoolBroke rack area command x new
@@ -102,7 +107,7 @@ ask_breaks rack area entry before now command (Made tells count geometry) desk n
 ask_breaks rack area entry before now command (Shut crash y) desk new is did = absurd did
 ask_breaks rack area entry before now command Unknown desk new is did = absurd did
 ask_breaks rack area entry before now command (Foreign known) desk None is did = absurd did
-ask_breaks rack area entry before now command (Foreign known) desk (Some new) is did = record { new = Foreign known; desk = record { stands = (did.0, did.3); shelf = tt }; breaks = (did.1, refl); cause = did.2 }
+ask_breaks rack area entry before now command (Foreign known) desk (Some new) is did = (let b = did.3 in record { new = Foreign b.0; desk = record { stands = (did.0, b.2); shelf = tt }; breaks = (did.1, (b.0, b.1, refl)); cause = did.2 })
 ask_breaks rack area entry before now command (Open y) desk None is did = absurd did
 ask_breaks rack area entry before now command (Open y) desk (Some new) is did =
     let c = did.1 in
@@ -134,6 +139,9 @@ module _ (choices : Choices) (finds : Finding → Type 0) where
   shut_says (RebalanceSlot slot) called is x = (called, is, refl, refl)
   shut_says CancelPasses called is x = (called, is, refl, refl)
   shut_says SyncPool called is x = (called, is, refl, refl)
+  shut_says TakeCheckpoint called is x = (called, is, refl, refl)
+  shut_says RewindPool called is x = (called, is, refl, refl)
+  shut_says DiscardCheckpoint called is x = (called, is, refl, refl)
   shut_says command called is x = absurd (cc is)
 
   by_desk : {R A : Type 0} (rack : racks.Ghosts R) (area : areas.Ghosts A) (command : Command) (reply : Reply) (x : Desk) → IsPool rack area None x → session.ShutTurns finds x command reply x
@@ -235,9 +243,12 @@ module _ {R A : Type 0} (rack : racks.Ghosts R) (area : areas.Ghosts A) (choices
       (refl, by_desk choices (MayFind rack area entry) rack area UpgradePool (NoPool called) x stands (shut_says choices (MayFind rack area entry) UpgradePool called is x)))
   by_ask (RunAgent least) called is = absurd (cc is)
   by_ask ShowJournal called is = absurd (cc is)
-  by_ask TakeCheckpoint called is = absurd (cc is)
-  by_ask RewindPool called is = absurd (cc is)
-  by_ask DiscardCheckpoint called is = absurd (cc is)
+  by_ask TakeCheckpoint called is = turned_by TakeCheckpoint called is (λ y z c same. (refl, (z, c, same))) (λ old new fits learns same. (refl, (fits, new, learns, same))) (λ x stands.
+      (refl, by_desk choices (MayFind rack area entry) rack area TakeCheckpoint (NoPool called) x stands (shut_says choices (MayFind rack area entry) TakeCheckpoint called is x)))
+  by_ask RewindPool called is = turned_by RewindPool called is (λ y z c same. (refl, (z, c, same))) (λ old new fits learns same. (refl, (fits, new, learns, same))) (λ x stands.
+      (refl, by_desk choices (MayFind rack area entry) rack area RewindPool (NoPool called) x stands (shut_says choices (MayFind rack area entry) RewindPool called is x)))
+  by_ask DiscardCheckpoint called is = turned_by DiscardCheckpoint called is (λ y z c same. (refl, (z, c, same))) (λ old new fits learns same. (refl, (fits, new, learns, same))) (λ x stands.
+      (refl, by_desk choices (MayFind rack area entry) rack area DiscardCheckpoint (NoPool called) x stands (shut_says choices (MayFind rack area entry) DiscardCheckpoint called is x)))
 
 -- a pool was made or refused, in the words of all commands
 pub by_create : {R A : Type 0} (rack : racks.Ghosts R) (area : areas.Ghosts A) (choices : Choices) (entry now : OnShelf) (text : List ℕ) (children : ℕ) (keys : PoolKeys) (x : Desk) (reply : Reply)

@@ -15,6 +15,7 @@ use Rattle.draid_session.specs.Certain.{MakesLeaves}
 use Rattle.draid_session.specs.Choices.{Choices}
 use Rattle.draid_session.specs.Does as session
 use Rattle.draid_session.specs.Holds.{Hold}
+use Rattle.draid_session.specs.Known.{Known, MayHaveBroken}
 use Rattle.draid_session.specs.State.{State, Store}
 use Rattle.draid_session.specs.Replies.{IsReplyTo}
 use Rattle.draid_session.specs.Session.{Desk, Open, Foreign, Breaks, Cause, MayBreak, Notes, RecordFails, ShelfFails, TurnsBy, left_of}
@@ -72,11 +73,16 @@ abbrev pub AnswerDoes : State → Choices → Command → Result Reply Failed �
 AnswerDoes x choices command (Ok reply) holds store = ReplyDoes x choices command reply holds store
 AnswerDoes x choices command (Err failed) holds store = BreaksBy x command holds store
 
--- What such a command came to that a failing device of the open pool ended: the pool stands for the state to which it came so far, or its objects are as they were known.
+-- what was known of the objects is so behind a command that a failing device ended, but for a rewind
+abbrev pub BreaksKnown : {R A : Type 0} → Command → Pool R A → Pool R A → Type 0
+BreaksKnown command old new = (known : Known) → KnowsPointers old known → (behind : Known) × MayHaveBroken command known behind × KnowsPointers new behind
+
+-- What such a command came to that a failing device of the open pool ended: the pool stands for the state to which it came so far, or its objects are as they were known, but behind a rewind.
 abbrev pub PoolBroke : {R A : Type 0} → racks.Ghosts R → areas.Ghosts A → Command → Desk → Option (Pool R A) → Type 0
 PoolBroke rack area command (Open x) (Some pool) = IsWhole rack area pool × CarriesOut rack area pool x (BreaksBy x command)
 PoolBroke rack area command (Foreign known) (Some pool) =
-    IsWhole rack area pool × MayBreak command × (PoolFails area (Some pool) ⊎ (MakesLeaves command × RackFails rack.faults pool)) × KnowsPointers pool known
+    IsWhole rack area pool × MayBreak command × (PoolFails area (Some pool) ⊎ (MakesLeaves command × RackFails rack.faults pool))
+    × ((behind : Known) × MayHaveBroken command known behind × KnowsPointers pool behind)
 PoolBroke rack area command desk pool = ⊥
 
 -- The name of a command that is carried out on the pool that is open alone, and leaves it open. One that isn't built isn't carried out, and the agent's two have to do with the
@@ -108,9 +114,9 @@ asked_in CancelPasses = Some name.Cancel
 asked_in (OpenLanes count) = None
 asked_in (RunAgent least) = None
 asked_in ShowJournal = None
-asked_in TakeCheckpoint = None
-asked_in RewindPool = None
-asked_in DiscardCheckpoint = None
+asked_in TakeCheckpoint = Some name.Checkpoint
+asked_in RewindPool = Some name.Rewind
+asked_in DiscardCheckpoint = Some name.Discard
 
 -- A line was done, and these are the replies to it.
 pub record Turned {R A : Type 0} (rack : racks.Ghosts R) (area : areas.Ghosts A) (choices : Choices) (command : Result Command LineFault) (entry : OnShelf) (old : Desk)

@@ -72,6 +72,9 @@ fn asked(line: &Line) -> Option<CommandName>
         Line::Status { .. } => Some(CommandName::Status),
         Line::Detach { .. } => Some(CommandName::Detach),
         Line::Upgrade => Some(CommandName::Upgrade),
+        Line::Checkpoint => Some(CommandName::Checkpoint),
+        Line::Rewind => Some(CommandName::Rewind),
+        Line::Discard => Some(CommandName::Discard),
         Line::Sync => Some(CommandName::Sync),
         _ => None,
     }

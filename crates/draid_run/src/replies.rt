@@ -12,8 +12,7 @@ ghost use Rattle.draid_pool.specs.Carries.{CarriesOut};
 ghost use Rattle.draid_pool.specs.Pools.{Represents};
 ghost use Rattle.draid_pool.specs.Whole.{IsWhole};
 ghost use Rattle.draid_pool.specs.Failing.{AreaFails, RackFails};
-ghost use Rattle.draid_pool.specs.Pointers.{SamePointers};
-ghost use Rattle.draid_run.specs.Desks.{AnswerDoes, asked_in};
+ghost use Rattle.draid_run.specs.Desks.{AnswerDoes, BreaksKnown, asked_in};
 ghost use Rattle.draid_pool.specs.Knows.{Teaches};
 ghost use Rattle.draid_store.specs.Says.{DamageSays, FreeSays, ReadSays, SumSays};
 ghost use Rattle.draid_status.specs.Says.{StatusSays};
@@ -32,6 +31,7 @@ use draid_names::{Failed, Room};
 use draid_pool::{Pool, reply_to_sync};
 use draid_rack::Rack;
 use draid_reply::Reply;
+use draid_rewinds::{reply_to_checkpoint, reply_to_discard, reply_to_rewind};
 use draid_script::Line;
 use draid_status::reply_to_status;
 use draid_store::{
@@ -58,7 +58,7 @@ pub(crate) fn reply<R: Rack, A: Area, F: Fn(&[Room]) -> Option<u32>>(
     ensures knows { IfOk result (λ reply. Teaches (command_in line.now) reply pool.old pool.new) }
     ensures arms { IfOk result (λ reply. ArmsBehind (command_in line.now) reply pool.new) }
     ensures passes { IfOk result (λ reply. PassesBehind (command_in line.now) reply pool.new) }
-    ensures breaks { IsErr result → MayBreak (command_in line.now) × (AreaFails A.faults pool.new ⊎ (MakesLeaves (command_in line.now) × RackFails R.faults pool.new)) × SamePointers pool.old pool.new }
+    ensures breaks { IsErr result → MayBreak (command_in line.now) × (AreaFails A.faults pool.new ⊎ (MakesLeaves (command_in line.now) × RackFails R.faults pool.new)) × BreaksKnown (command_in line.now) pool.old pool.new }
     ensures step { (x : State) → Represents R.Rack A.Area pool.old x
         → CarriesOut R.Rack A.Area pool.new x (AnswerDoes x (choices_by (FnReturnsAt F.Fn chooser.now)) (command_in line.now) result) }
 {
@@ -85,6 +85,9 @@ pub(crate) fn reply<R: Rack, A: Area, F: Fn(&[Room]) -> Option<u32>>(
         Line::Status { format } => Ok(reply_to_status(alloc, pool, *format)),
         Line::Detach { arm } => reply_to_detach(pool, *arm),
         Line::Upgrade => reply_to_upgrade(pool),
+        Line::Checkpoint => reply_to_checkpoint(pool),
+        Line::Rewind => reply_to_rewind(pool),
+        Line::Discard => reply_to_discard(pool),
         Line::Sync => reply_to_sync(pool),
         _ => unreachable!(),
     }

@@ -47,6 +47,15 @@ returns-in-Rebalance c = sym (ap (λ (l : Line). asked_in (command_in l)) c.in-R
 pub returns-in-Cancel : goal.returns-in-Cancel
 returns-in-Cancel c = sym (ap (λ (l : Line). asked_in (command_in l)) c.in-Cancel.is)
 
+pub returns-in-Checkpoint : goal.returns-in-Checkpoint
+returns-in-Checkpoint c = sym (ap (λ (l : Line). asked_in (command_in l)) c.in-Checkpoint.is)
+
+pub returns-in-Rewind : goal.returns-in-Rewind
+returns-in-Rewind c = sym (ap (λ (l : Line). asked_in (command_in l)) c.in-Rewind.is)
+
+pub returns-in-Discard : goal.returns-in-Discard
+returns-in-Discard c = sym (ap (λ (l : Line). asked_in (command_in l)) c.in-Discard.is)
+
 pub returns-in_default : goal.returns-in_default
 returns-in_default c =
-    sym (asks_nothing c.args.line.now c.in_default.not-Write c.in_default.not-Fill c.in_default.not-Read c.in_default.not-Free c.in_default.not-Sum c.in_default.not-Offline c.in_default.not-Online c.in_default.not-Damage c.in_default.not-Spare c.in_default.not-Replace c.in_default.not-Status c.in_default.not-Detach c.in_default.not-Upgrade c.in_default.not-Rebuild c.in_default.not-Scrub c.in_default.not-Cancel c.in_default.not-Rebalance c.in_default.not-Sync)
+    sym (asks_nothing c.args.line.now c.in_default.not-Write c.in_default.not-Fill c.in_default.not-Read c.in_default.not-Free c.in_default.not-Sum c.in_default.not-Offline c.in_default.not-Online c.in_default.not-Damage c.in_default.not-Spare c.in_default.not-Replace c.in_default.not-Status c.in_default.not-Detach c.in_default.not-Upgrade c.in_default.not-Rebuild c.in_default.not-Scrub c.in_default.not-Cancel c.in_default.not-Rebalance c.in_default.not-Sync c.in_default.not-Checkpoint c.in_default.not-Rewind c.in_default.not-Discard)

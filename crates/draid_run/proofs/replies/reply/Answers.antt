@@ -1,17 +1,21 @@
 use Rattle.std.proofs.Common.{◌∙◌, inl, inr, true, false, IfOk, ap, refl, subst, sym}
 use Rattle.std.specs.Fn.{FnReturnsAt}
 use Rattle.draid_session.specs.Choices.{choices_by}
-use Rattle.draid_script.specs.Line.{AttachSpare, FillObjects, IsInRange, TakeOffline, TakeOnline, DetachArm, SyncPool, UpgradePool, WriteObject, command_in, RebuildPool, ScrubPool, RebalanceSlot, ReplaceDisk, CancelPasses}
+use Rattle.draid_script.specs.Line.{AttachSpare, DiscardCheckpoint, RewindPool, TakeCheckpoint, FillObjects, IsInRange, TakeOffline, TakeOnline, DetachArm, SyncPool, UpgradePool, WriteObject, command_in, RebuildPool, ScrubPool, RebalanceSlot, ReplaceDisk, CancelPasses}
 use Rattle.draid_session.specs.Replies.{IsReplyTo}
 use Rattle.draid_pool.specs.Knows.{Teaches}
 use Rattle.draid_pool.proofs.Rises.{rose_fails}
 use Rattle.draid_pool.proofs.Taught.{teaches_nothing}
 use Rattle.draid_session.specs.Certain.{MakesLeaves}
+use Rattle.draid_session.specs.Known.{nothing_known}
+use Rattle.draid_run.specs.Desks.{BreaksKnown}
+use Rattle.draid_run.proofs.Checks.{teaches_rewind}
+use Rattle.draid_run.proofs.Steps.{breaks_same}
 use Rattle.draid_session.specs.Session.{MayBreak}
 use Rattle.draid_changes.specs.Behind.{ArmsBehind}
 use Rattle.draid_changes.proofs.Made.{rack_fails}
 use Rattle.draid_visits.specs.Behind.{PassesBehind}
-use Rattle.draid_run.proofs.Asking.{asks_nothing, each_reply, replied_as, replied_damage, replied_detach, replied_free, replied_read, replied_spare, replied_status, replied_sync, replied_sum, replied_switch, replied_upgrade, replied_replace, replied_cancel, replied_rebalance, replied_rebuild, replied_scrub}
+use Rattle.draid_run.proofs.Asking.{asks_nothing, each_reply, replied_as, replied_damage, replied_detach, replied_discard, replied_rewind, replied_take, replied_free, replied_read, replied_spare, replied_status, replied_sync, replied_sum, replied_switch, replied_upgrade, replied_replace, replied_cancel, replied_rebalance, replied_rebuild, replied_scrub}
 use Rattle.draid_run.proofs.replies.reply.Goals as goal
 
 pub returns-in-Write : goal.returns-in-Write
@@ -82,7 +86,7 @@ returns-in-Offline g c =
           (each_reply c.reply_to_offline.result (λ reply. Teaches (TakeOffline c.in-Offline.leaf) reply c.args.pool.now c.reply_to_offline.new.pool) (λ reply. teaches_nothing (TakeOffline c.in-Offline.leaf) reply (λ known. refl) c.args.pool.now c.reply_to_offline.new.pool e.same));
       arms = subst (λ k. IfOk c.reply_to_offline.result (λ reply. ArmsBehind k reply c.reply_to_offline.new.pool)) (sym is) e.arms;
       passes = subst (λ k. IfOk c.reply_to_offline.result (λ reply. PassesBehind k reply c.reply_to_offline.new.pool)) (sym is) (each_reply c.reply_to_offline.result (λ reply. PassesBehind (TakeOffline c.in-Offline.leaf) reply c.reply_to_offline.new.pool) (λ reply. tt));
-      breaks = λ failed. (subst MayBreak (sym is) tt, inl (rose_fails g.A.Area.faults c.args.pool.now c.reply_to_offline.new.pool (e.cause failed)), e.same);
+      breaks = λ failed. (subst MayBreak (sym is) tt, inl (rose_fails g.A.Area.faults c.args.pool.now c.reply_to_offline.new.pool (e.cause failed)), breaks_same (command_in c.args.line.now) c.args.pool.now c.reply_to_offline.new.pool e.same);
       step = λ x rep. replied_switch g.R.Rack g.A.Area (choices_by (FnReturnsAt g.F.Fn c.args.chooser.now)) c.args.line.now x c.reply_to_offline.new.pool c.in-Offline.leaf true c.reply_to_offline.result is (e.step x rep);
     }
 
@@ -97,7 +101,7 @@ returns-in-Online g c =
           (each_reply c.reply_to_online.result (λ reply. Teaches (TakeOnline c.in-Online.leaf) reply c.args.pool.now c.reply_to_online.new.pool) (λ reply. teaches_nothing (TakeOnline c.in-Online.leaf) reply (λ known. refl) c.args.pool.now c.reply_to_online.new.pool e.same));
       arms = subst (λ k. IfOk c.reply_to_online.result (λ reply. ArmsBehind k reply c.reply_to_online.new.pool)) (sym is) e.arms;
       passes = subst (λ k. IfOk c.reply_to_online.result (λ reply. PassesBehind k reply c.reply_to_online.new.pool)) (sym is) (each_reply c.reply_to_online.result (λ reply. PassesBehind (TakeOnline c.in-Online.leaf) reply c.reply_to_online.new.pool) (λ reply. tt));
-      breaks = λ failed. (subst MayBreak (sym is) tt, inl (rose_fails g.A.Area.faults c.args.pool.now c.reply_to_online.new.pool (e.cause failed)), e.same);
+      breaks = λ failed. (subst MayBreak (sym is) tt, inl (rose_fails g.A.Area.faults c.args.pool.now c.reply_to_online.new.pool (e.cause failed)), breaks_same (command_in c.args.line.now) c.args.pool.now c.reply_to_online.new.pool e.same);
       step = λ x rep. replied_switch g.R.Rack g.A.Area (choices_by (FnReturnsAt g.F.Fn c.args.chooser.now)) c.args.line.now x c.reply_to_online.new.pool c.in-Online.leaf false c.reply_to_online.result is (e.step x rep);
     }
 
@@ -113,7 +117,7 @@ returns-in-Spare g c =
           (λ reply. teaches_nothing (AttachSpare c.in-Spare.slot c.in-Spare.spare) reply (λ known. refl) c.args.pool.now c.reply_to_spare.new.pool e.same));
       arms = subst (λ k. IfOk c.reply_to_spare.result (λ reply. ArmsBehind k reply c.reply_to_spare.new.pool)) (sym is) e.arms;
       passes = subst (λ k. IfOk c.reply_to_spare.result (λ reply. PassesBehind k reply c.reply_to_spare.new.pool)) (sym is) (each_reply c.reply_to_spare.result (λ reply. PassesBehind (AttachSpare c.in-Spare.slot c.in-Spare.spare) reply c.reply_to_spare.new.pool) (λ reply. tt));
-      breaks = λ failed. (subst MayBreak (sym is) tt, inl (rose_fails g.A.Area.faults c.args.pool.now c.reply_to_spare.new.pool (e.cause failed)), e.same);
+      breaks = λ failed. (subst MayBreak (sym is) tt, inl (rose_fails g.A.Area.faults c.args.pool.now c.reply_to_spare.new.pool (e.cause failed)), breaks_same (command_in c.args.line.now) c.args.pool.now c.reply_to_spare.new.pool e.same);
       step = λ x rep. replied_spare g.R.Rack g.A.Area (choices_by (FnReturnsAt g.F.Fn c.args.chooser.now)) c.args.line.now x c.reply_to_spare.new.pool c.in-Spare.slot c.in-Spare.spare c.reply_to_spare.result c.in-Spare.is (e.step x rep);
     }
 
@@ -135,7 +139,7 @@ returns-in-Replace g c =
           | inl rose ↦ inl (rose_fails g.A.Area.faults c.args.pool.now c.reply_to_replace.new.pool rose)
           | inr rose ↦ inr (subst MakesLeaves (sym is) tt, rack_fails g.R.Rack.faults c.args.pool.now c.reply_to_replace.new.pool rose)
         ]),
-        e.same,
+        breaks_same (command_in c.args.line.now) c.args.pool.now c.reply_to_replace.new.pool e.same,
       );
       step = λ x rep. replied_replace g.R.Rack g.A.Area (choices_by (FnReturnsAt g.F.Fn c.args.chooser.now)) c.args.line.now x c.reply_to_replace.new.pool c.in-Replace.slot c.in-Replace.sectors c.reply_to_replace.result c.in-Replace.is (e.step x rep);
     }
@@ -152,7 +156,7 @@ returns-in-Detach g c =
           (λ reply. teaches_nothing (DetachArm c.in-Detach.arm) reply (λ known. refl) c.args.pool.now c.reply_to_detach.new.pool e.same));
       arms = subst (λ k. IfOk c.reply_to_detach.result (λ reply. ArmsBehind k reply c.reply_to_detach.new.pool)) (sym is) e.arms;
       passes = subst (λ k. IfOk c.reply_to_detach.result (λ reply. PassesBehind k reply c.reply_to_detach.new.pool)) (sym is) (each_reply c.reply_to_detach.result (λ reply. PassesBehind (DetachArm c.in-Detach.arm) reply c.reply_to_detach.new.pool) (λ reply. tt));
-      breaks = λ failed. (subst MayBreak (sym is) tt, inl (rose_fails g.A.Area.faults c.args.pool.now c.reply_to_detach.new.pool (e.cause failed)), e.same);
+      breaks = λ failed. (subst MayBreak (sym is) tt, inl (rose_fails g.A.Area.faults c.args.pool.now c.reply_to_detach.new.pool (e.cause failed)), breaks_same (command_in c.args.line.now) c.args.pool.now c.reply_to_detach.new.pool e.same);
       step = λ x rep. replied_detach g.R.Rack g.A.Area (choices_by (FnReturnsAt g.F.Fn c.args.chooser.now)) c.args.line.now x c.reply_to_detach.new.pool c.in-Detach.arm c.reply_to_detach.result c.in-Detach.is (e.step x rep);
     }
 
@@ -167,7 +171,7 @@ returns-in-Upgrade g c =
           (each_reply c.reply_to_upgrade.result (λ reply. Teaches UpgradePool reply c.args.pool.now c.reply_to_upgrade.new.pool) (λ reply. teaches_nothing UpgradePool reply (λ known. refl) c.args.pool.now c.reply_to_upgrade.new.pool e.same));
       arms = subst (λ k. IfOk c.reply_to_upgrade.result (λ reply. ArmsBehind k reply c.reply_to_upgrade.new.pool)) (sym is) e.arms;
       passes = subst (λ k. IfOk c.reply_to_upgrade.result (λ reply. PassesBehind k reply c.reply_to_upgrade.new.pool)) (sym is) (each_reply c.reply_to_upgrade.result (λ reply. PassesBehind UpgradePool reply c.reply_to_upgrade.new.pool) (λ reply. tt));
-      breaks = λ failed. (subst MayBreak (sym is) tt, inl (rose_fails g.A.Area.faults c.args.pool.now c.reply_to_upgrade.new.pool (e.cause failed)), e.same);
+      breaks = λ failed. (subst MayBreak (sym is) tt, inl (rose_fails g.A.Area.faults c.args.pool.now c.reply_to_upgrade.new.pool (e.cause failed)), breaks_same (command_in c.args.line.now) c.args.pool.now c.reply_to_upgrade.new.pool e.same);
       step = λ x rep. replied_upgrade g.R.Rack g.A.Area (choices_by (FnReturnsAt g.F.Fn c.args.chooser.now)) c.args.line.now x c.reply_to_upgrade.new.pool c.reply_to_upgrade.result c.in-Upgrade.is (e.step x rep);
     }
 
@@ -182,8 +186,53 @@ returns-in-Sync g c =
           (each_reply c.reply_to_sync.result (λ reply. Teaches SyncPool reply c.args.pool.now c.reply_to_sync.new.pool) (λ reply. teaches_nothing SyncPool reply (λ known. refl) c.args.pool.now c.reply_to_sync.new.pool e.same));
       arms = subst (λ k. IfOk c.reply_to_sync.result (λ reply. ArmsBehind k reply c.reply_to_sync.new.pool)) (sym is) (each_reply c.reply_to_sync.result (λ reply. ArmsBehind SyncPool reply c.reply_to_sync.new.pool) (λ reply. tt));
       passes = subst (λ k. IfOk c.reply_to_sync.result (λ reply. PassesBehind k reply c.reply_to_sync.new.pool)) (sym is) (each_reply c.reply_to_sync.result (λ reply. PassesBehind SyncPool reply c.reply_to_sync.new.pool) (λ reply. tt));
-      breaks = λ failed. (subst MayBreak (sym is) tt, inl (rose_fails g.A.Area.faults c.args.pool.now c.reply_to_sync.new.pool (e.cause failed)), e.same);
+      breaks = λ failed. (subst MayBreak (sym is) tt, inl (rose_fails g.A.Area.faults c.args.pool.now c.reply_to_sync.new.pool (e.cause failed)), breaks_same (command_in c.args.line.now) c.args.pool.now c.reply_to_sync.new.pool e.same);
       step = λ x rep. replied_sync g.R.Rack g.A.Area (choices_by (FnReturnsAt g.F.Fn c.args.chooser.now)) c.args.line.now x c.reply_to_sync.new.pool c.reply_to_sync.result c.in-Sync.is (e.step x rep);
+    }
+
+pub returns-in-Checkpoint : goal.returns-in-Checkpoint
+returns-in-Checkpoint g c =
+    let e = c.reply_to_checkpoint.ensures in
+    let is = ap command_in c.in-Checkpoint.is in
+    record {
+      whole = e.whole;
+      fits = subst (λ k. IfOk c.reply_to_checkpoint.result (IsReplyTo k)) (sym is) e.fits;
+      knows = subst (λ k. IfOk c.reply_to_checkpoint.result (λ reply. Teaches k reply c.args.pool.now c.reply_to_checkpoint.new.pool)) (sym is)
+          (each_reply c.reply_to_checkpoint.result (λ reply. Teaches TakeCheckpoint reply c.args.pool.now c.reply_to_checkpoint.new.pool) (λ reply. teaches_nothing TakeCheckpoint reply (λ known. refl) c.args.pool.now c.reply_to_checkpoint.new.pool e.same));
+      arms = subst (λ k. IfOk c.reply_to_checkpoint.result (λ reply. ArmsBehind k reply c.reply_to_checkpoint.new.pool)) (sym is) (each_reply c.reply_to_checkpoint.result (λ reply. ArmsBehind TakeCheckpoint reply c.reply_to_checkpoint.new.pool) (λ reply. tt));
+      passes = subst (λ k. IfOk c.reply_to_checkpoint.result (λ reply. PassesBehind k reply c.reply_to_checkpoint.new.pool)) (sym is) (each_reply c.reply_to_checkpoint.result (λ reply. PassesBehind TakeCheckpoint reply c.reply_to_checkpoint.new.pool) (λ reply. tt));
+      breaks = λ failed. (subst MayBreak (sym is) tt, inl (rose_fails g.A.Area.faults c.args.pool.now c.reply_to_checkpoint.new.pool (e.cause failed)), breaks_same (command_in c.args.line.now) c.args.pool.now c.reply_to_checkpoint.new.pool e.same);
+      step = λ x rep. replied_take g.R.Rack g.A.Area (choices_by (FnReturnsAt g.F.Fn c.args.chooser.now)) c.args.line.now x c.reply_to_checkpoint.new.pool c.reply_to_checkpoint.result c.in-Checkpoint.is (e.step x rep);
+    }
+
+pub returns-in-Rewind : goal.returns-in-Rewind
+returns-in-Rewind g c =
+    let e = c.reply_to_rewind.ensures in
+    let is = ap command_in c.in-Rewind.is in
+    record {
+      whole = e.whole;
+      fits = subst (λ k. IfOk c.reply_to_rewind.result (IsReplyTo k)) (sym is) e.fits;
+      knows = subst (λ k. IfOk c.reply_to_rewind.result (λ reply. Teaches k reply c.args.pool.now c.reply_to_rewind.new.pool)) (sym is)
+          (teaches_rewind c.reply_to_rewind.result c.args.pool.now c.reply_to_rewind.new.pool e.fits e.none);
+      arms = subst (λ k. IfOk c.reply_to_rewind.result (λ reply. ArmsBehind k reply c.reply_to_rewind.new.pool)) (sym is) (each_reply c.reply_to_rewind.result (λ reply. ArmsBehind RewindPool reply c.reply_to_rewind.new.pool) (λ reply. tt));
+      passes = subst (λ k. IfOk c.reply_to_rewind.result (λ reply. PassesBehind k reply c.reply_to_rewind.new.pool)) (sym is) (each_reply c.reply_to_rewind.result (λ reply. PassesBehind RewindPool reply c.reply_to_rewind.new.pool) (λ reply. tt));
+      breaks = λ failed. (subst MayBreak (sym is) tt, inl (rose_fails g.A.Area.faults c.args.pool.now c.reply_to_rewind.new.pool (e.cause failed)), subst (λ k. BreaksKnown k c.args.pool.now c.reply_to_rewind.new.pool) (sym is) (λ known knows. (nothing_known, inr refl, λ object. tt)));
+      step = λ x rep. replied_rewind g.R.Rack g.A.Area (choices_by (FnReturnsAt g.F.Fn c.args.chooser.now)) c.args.line.now x c.reply_to_rewind.new.pool c.reply_to_rewind.result c.in-Rewind.is (e.step x rep);
+    }
+
+pub returns-in-Discard : goal.returns-in-Discard
+returns-in-Discard g c =
+    let e = c.reply_to_discard.ensures in
+    let is = ap command_in c.in-Discard.is in
+    record {
+      whole = e.whole;
+      fits = subst (λ k. IfOk c.reply_to_discard.result (IsReplyTo k)) (sym is) e.fits;
+      knows = subst (λ k. IfOk c.reply_to_discard.result (λ reply. Teaches k reply c.args.pool.now c.reply_to_discard.new.pool)) (sym is)
+          (each_reply c.reply_to_discard.result (λ reply. Teaches DiscardCheckpoint reply c.args.pool.now c.reply_to_discard.new.pool) (λ reply. teaches_nothing DiscardCheckpoint reply (λ known. refl) c.args.pool.now c.reply_to_discard.new.pool e.same));
+      arms = subst (λ k. IfOk c.reply_to_discard.result (λ reply. ArmsBehind k reply c.reply_to_discard.new.pool)) (sym is) (each_reply c.reply_to_discard.result (λ reply. ArmsBehind DiscardCheckpoint reply c.reply_to_discard.new.pool) (λ reply. tt));
+      passes = subst (λ k. IfOk c.reply_to_discard.result (λ reply. PassesBehind k reply c.reply_to_discard.new.pool)) (sym is) (each_reply c.reply_to_discard.result (λ reply. PassesBehind DiscardCheckpoint reply c.reply_to_discard.new.pool) (λ reply. tt));
+      breaks = λ failed. (subst MayBreak (sym is) tt, inl (rose_fails g.A.Area.faults c.args.pool.now c.reply_to_discard.new.pool (e.cause failed)), breaks_same (command_in c.args.line.now) c.args.pool.now c.reply_to_discard.new.pool e.same);
+      step = λ x rep. replied_discard g.R.Rack g.A.Area (choices_by (FnReturnsAt g.F.Fn c.args.chooser.now)) c.args.line.now x c.reply_to_discard.new.pool c.reply_to_discard.result c.in-Discard.is (e.step x rep);
     }
 
 pub returns-in-Rebuild : goal.returns-in-Rebuild
@@ -199,7 +248,7 @@ returns-in-Rebuild g c =
       arms = subst (λ k. IfOk c.reply_to_rebuild.result (λ reply. ArmsBehind k reply c.reply_to_rebuild.new.pool)) (sym is)
           (each_reply c.reply_to_rebuild.result (λ reply. ArmsBehind (RebuildPool c.in-Rebuild.limit) reply c.reply_to_rebuild.new.pool) (λ reply. tt));
       passes = subst (λ k. IfOk c.reply_to_rebuild.result (λ reply. PassesBehind k reply c.reply_to_rebuild.new.pool)) (sym is) e.passes;
-      breaks = λ failed. (subst MayBreak (sym is) tt, inl (rose_fails g.A.Area.faults c.args.pool.now c.reply_to_rebuild.new.pool (e.cause failed)), e.same);
+      breaks = λ failed. (subst MayBreak (sym is) tt, inl (rose_fails g.A.Area.faults c.args.pool.now c.reply_to_rebuild.new.pool (e.cause failed)), breaks_same (command_in c.args.line.now) c.args.pool.now c.reply_to_rebuild.new.pool e.same);
       step = λ x rep. replied_rebuild g.R.Rack g.A.Area (choices_by (FnReturnsAt g.F.Fn c.args.chooser.now)) c.args.line.now x c.reply_to_rebuild.new.pool c.in-Rebuild.limit c.reply_to_rebuild.result c.in-Rebuild.is (e.step x rep);
     }
 
@@ -227,7 +276,7 @@ returns-in-Rebalance g c =
           (λ reply. teaches_nothing (RebalanceSlot c.in-Rebalance.slot) reply (λ known. refl) c.args.pool.now c.reply_to_rebalance.new.pool e.same));
       arms = subst (λ k. IfOk c.reply_to_rebalance.result (λ reply. ArmsBehind k reply c.reply_to_rebalance.new.pool)) (sym is) e.arms;
       passes = subst (λ k. IfOk c.reply_to_rebalance.result (λ reply. PassesBehind k reply c.reply_to_rebalance.new.pool)) (sym is) e.passes;
-      breaks = λ failed. (subst MayBreak (sym is) tt, inl (rose_fails g.A.Area.faults c.args.pool.now c.reply_to_rebalance.new.pool (e.cause failed)), e.same);
+      breaks = λ failed. (subst MayBreak (sym is) tt, inl (rose_fails g.A.Area.faults c.args.pool.now c.reply_to_rebalance.new.pool (e.cause failed)), breaks_same (command_in c.args.line.now) c.args.pool.now c.reply_to_rebalance.new.pool e.same);
       step = λ x rep. replied_rebalance g.R.Rack g.A.Area (choices_by (FnReturnsAt g.F.Fn c.args.chooser.now)) c.args.line.now x c.reply_to_rebalance.new.pool c.in-Rebalance.slot c.reply_to_rebalance.result c.in-Rebalance.is (e.step x rep);
     }
 
@@ -267,7 +316,7 @@ returns-in-Status g c = record {
 
 pub unreachable-requires : goal.unreachable-requires
 unreachable-requires g c =
-    c.requires.asks (asks_nothing c.args.line.now c.in_default.not-Write c.in_default.not-Fill c.in_default.not-Read c.in_default.not-Free c.in_default.not-Sum c.in_default.not-Offline c.in_default.not-Online c.in_default.not-Damage c.in_default.not-Spare c.in_default.not-Replace c.in_default.not-Status c.in_default.not-Detach c.in_default.not-Upgrade c.in_default.not-Rebuild c.in_default.not-Scrub c.in_default.not-Cancel c.in_default.not-Rebalance c.in_default.not-Sync)
+    c.requires.asks (asks_nothing c.args.line.now c.in_default.not-Write c.in_default.not-Fill c.in_default.not-Read c.in_default.not-Free c.in_default.not-Sum c.in_default.not-Offline c.in_default.not-Online c.in_default.not-Damage c.in_default.not-Spare c.in_default.not-Replace c.in_default.not-Status c.in_default.not-Detach c.in_default.not-Upgrade c.in_default.not-Rebuild c.in_default.not-Scrub c.in_default.not-Cancel c.in_default.not-Rebalance c.in_default.not-Sync c.in_default.not-Checkpoint c.in_default.not-Rewind c.in_default.not-Discard)
 
 pub reply_to_write-requires-clause-range : goal.reply_to_write-requires-clause-range
 reply_to_write-requires-clause-range g c = subst IsInRange (ap command_in c.in-Write.is ∙ ap (WriteObject c.in-Write.object) (sym c.deref.ensures.value)) c.requires.range
@@ -337,3 +386,12 @@ reply_to_upgrade-requires g c = record { whole = c.requires.whole }
 
 pub reply_to_detach-requires : goal.reply_to_detach-requires
 reply_to_detach-requires g c = record { whole = c.requires.whole }
+
+pub reply_to_checkpoint-requires : goal.reply_to_checkpoint-requires
+reply_to_checkpoint-requires g c = record { whole = c.requires.whole }
+
+pub reply_to_rewind-requires : goal.reply_to_rewind-requires
+reply_to_rewind-requires g c = record { whole = c.requires.whole }
+
+pub reply_to_discard-requires : goal.reply_to_discard-requires
+reply_to_discard-requires g c = record { whole = c.requires.whole }
