@@ -1,9 +1,12 @@
-//! Tests of rebuilds, scrubs, rebalances and repairs that are stopped, or of which a device call fails. It offers nothing.
+//! Tests of rebuilds, scrubs, rebalances and repairs that are stopped, or of which a device call fails, and of commands beside a
+//! checkpoint that are stopped. It offers nothing.
 
 #![tactic(auto)]
 
 #[cfg(test)]
 mod agents;
+#[cfg(test)]
+mod checkpoints;
 #[cfg(test)]
 mod rebalances;
 #[cfg(test)]
