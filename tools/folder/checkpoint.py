@@ -1,10 +1,10 @@
-"""A pool with a checkpoint, which a check record that is written here gives it: what is freed or overwritten stays with the
-checkpoint, and each sync names it."""
+"""A pool with a checkpoint: what is freed or overwritten stays with that, and each sync names it. An import goes by what a check
+record names that is written here."""
 from common import SMALL, check, fresh, made, run
 from formats import check_area, check_of
 
-MADE = SMALL + "write 1 aa\nwrite 2 bb\nwrite 3 cc\nsync\n"
-GROUP = 2  # that of the sync, and of the checkpoint
+MADE = SMALL + "write 1 aa\nwrite 2 bb\nwrite 3 cc\ncheckpoint\n"
+GROUP = 2  # that of the checkpoint
 
 # What goes on beside the checkpoint, line by line with its reply. Writes are numbered from 1 on: those of MADE are 1, 2 and 3.
 BESIDE = [
@@ -54,7 +54,6 @@ def live(row, folder, wanted):
 
 def main():
     before = made(MADE)
-    put(before, GROUP, [])
 
     row = "beside a checkpoint"
     folder = fresh(copy_of=before)

@@ -33,7 +33,7 @@ def one(number, before):
     check(row, status, 7 if ends else 0)
     if ends:
         lines.pop()
-    kept = story.left(lines[1:], 2, {1: "aa", 2: "bb"})
+    kept = story.left(lines[1:], 2, ({1: "aa", 2: "bb"}, None))
     is_kept(row, folder, OBJECTS, kept)
     return "to the end" if not ends else "into the script" if lines else "not opened"
 

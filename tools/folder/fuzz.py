@@ -10,6 +10,7 @@ from formats import answer
 SCRIPTS = [
     SMALL + "fill 1 4 900 1\nsync\nwrite 2 aabb\nfree 3\nsync\nwrite 9 00\nexport\n",
     TWO + "fill 1 12 2000 7\nsync\nfree 3\nfill 20 5 100 2\nsync\n",
+    SMALL + "fill 1 5 600 3\ncheckpoint\nfill 2 3 700 4\nfree 5\nsync\nwrite 8 cc\nfree 2\nsync\n",
     "create draid2:3d:8c:1s 8 sector=512 height=16 metaslabs=1 slices=3 version=2\nfill 0 9 3000 1\ndamage 2 0\nexport\n",
 ]
 

@@ -42,7 +42,7 @@ def main(rounds=200, seed=1):
     random.seed(seed)
     creates(rounds)
     folder = made(TWO)
-    kept = {1: {}}
+    kept = {1: ({}, None)}
     group = 1
     ended = {"in mid-script": 0, "last group": 0, "group under way": 0}
     for number in range(rounds):

@@ -15,6 +15,9 @@ BEFORE = "create draid1:2d:3c:0s 3 sector=512 height=8 metaslabs=3 slices=4\nwri
 OTHER = "create draid1:3d:5c:0s 5 sector=512 height=8 metaslabs=1 slices=8\n"
 NO_POOL = {(None, 0): "import no pool\n" + OBJECTS * "read no pool\n"}
 
+# A new pool has no object and no checkpoint.
+NEW = ({}, None)
+
 # In place of a run: the system failed to write back what wasn't synced, told somebody of it, and takes it for written.
 LOST = (None, 0)
 
@@ -24,8 +27,8 @@ def name_of(create):
 
 
 def possible(create):
-    """What is there behind this script, by name and group: two objects, in group 2."""
-    return {(name_of(create), 2): {1: "aa", 2: "bb"}}
+    """What is there behind this script, by name and group: two objects, in group 2, and no checkpoint."""
+    return {(name_of(create), 2): ({1: "aa", 2: "bb"}, None)}
 
 
 class Run:
@@ -49,12 +52,12 @@ class Run:
         told = b"".join(call["bytes"] for call in self.calls[:stop] if call["kind"] == "reply").decode()
         replies = told.split("\n")[:-1]
         if not replies:
-            return self.before if not self.makes else {**self.before, **NO_POOL, (self.makes, 1): {}}
+            return self.before if not self.makes else {**self.before, **NO_POOL, (self.makes, 1): NEW}
         if replies[0] == "import no pool":
             assert NO_POOL.keys() <= self.before.keys(), self.before
             return self.before
         name, group = self.opened(replies[0])
-        kept = self.story.left(replies[1:], group, {} if self.makes else self.before[name, group])
+        kept = self.story.left(replies[1:], group, NEW if self.makes else self.before[name, group])
         return {(name, group): objects for group, objects in kept.items()}
 
     def opened(self, reply):
