@@ -2,8 +2,6 @@ use Rattle.std.specs.Prelude.{ℕ, ⊤, List, [], ◌++◌, codes}
 use Rattle.std.specs.Fmt.{decimal}
 use Rattle.draid_record.specs.Kind.{kind_number}
 use Rattle.draid_script.specs.Fault as lines
-use Rattle.draid_exits.specs.declared.status.LineRefusal.{LineRefusal}
-use Rattle.draid_exits.specs.declared.status.LineRefusal.TheVariants.{Fault, Unbuilt}
 use Rattle.draid_exits.specs.declared.status.RecordName.{RecordName}
 use Rattle.draid_exits.specs.declared.status.RecordName.TheVariants.{Uber, Metaslab, Check}
 use Rattle.draid_exits.specs.declared.status.Status.{Status}
@@ -13,7 +11,7 @@ use Rattle.draid_exits.specs.declared.status.Status.TheVariants.{Done, Usage, Li
 abbrev pub code_of : Status → ℕ
 code_of Done = 0
 code_of Usage = 1
-code_of (Line line why at) = 2
+code_of (Line line kind at) = 2
 code_of SourceFault = 3
 code_of SinkFault = 4
 code_of NoMemory = 5
@@ -23,7 +21,7 @@ code_of (Record name at kind) = 8
 
 -- the status's line names a number
 abbrev pub HasNumber : Status → Type 0
-HasNumber (Line line why at) = ⊤
+HasNumber (Line line kind at) = ⊤
 HasNumber (TooLong line) = ⊤
 HasNumber (Record name at kind) = ⊤
 HasNumber status = ⊥
@@ -36,11 +34,6 @@ fixed_text NoMemory = codes "no memory\n"
 fixed_text ShelfFault = codes "shelf fault\n"
 fixed_text status = []
 
--- the number by which it is printed why a line isn't run
-abbrev pub refusal_number : LineRefusal → ℕ
-refusal_number (Fault kind) = lines.kind_number kind
-refusal_number Unbuilt = 7
-
 -- which record it is
 abbrev pub record_name : RecordName → List ℕ
 record_name Uber = codes "uber"
@@ -49,7 +42,7 @@ record_name Check = codes "check"
 
 -- the line that is printed last, its end included
 abbrev pub last_text : Status → List ℕ
-last_text (Line line why at) = codes "line " ++ (decimal line ++ (codes " fault=" ++ (decimal (refusal_number why) ++ (codes " at=" ++ (decimal at ++ codes "\n")))))
+last_text (Line line kind at) = codes "line " ++ (decimal line ++ (codes " fault=" ++ (decimal (lines.kind_number kind) ++ (codes " at=" ++ (decimal at ++ codes "\n")))))
 last_text (TooLong line) = codes "line " ++ (decimal line ++ codes " too long\n")
 last_text (Record name at kind) = codes "record " ++ (record_name name ++ (codes " at=" ++ (decimal at ++ (codes " kind=" ++ (decimal (kind_number kind) ++ codes "\n")))))
 last_text status = fixed_text status

@@ -4,4 +4,4 @@
 
 mod status;
 
-pub use status::{LineRefusal, RecordName, Status, fixed_line, numbered_line};
+pub use status::{RecordName, Status, fixed_line, numbered_line};

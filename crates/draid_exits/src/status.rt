@@ -5,29 +5,6 @@ use draid_record::RecordFaultKind;
 use draid_script::LineFaultKind;
 use std::alloc::{AllocError, Global};
 
-/// Why a line isn't run, with the number of what isn't a fault of the line in brackets.
-#[derive(Clone, Copy, PartialEq, Eq)]
-pub enum LineRefusal {
-    /// It is outside the grammar.
-    Fault(LineFaultKind),
-    /// Its command isn't built (7).
-    Unbuilt,
-}
-
-impl LineRefusal {
-    ghost use Rattle.draid_exits.specs.Status.{refusal_number};
-
-    /// The number by which it is printed.
-    fn number(self) -> u8
-        ensures { result ≡ refusal_number self }
-    {
-        match self {
-            LineRefusal::Fault(kind) => kind.number(),
-            LineRefusal::Unbuilt => 7,
-        }
-    }
-}
-
 /// Which record has a fault to an import.
 #[derive(Clone, Copy, PartialEq, Eq)]
 pub enum RecordName {
@@ -46,10 +23,10 @@ pub enum Status {
     Done,
     /// The words don't ask for a session (1).
     Usage,
-    /// This line, counted from 1, is refused, at this place (2).
+    /// This line, counted from 1, has its first fault at this place (2).
     Line {
         line: u64,
-        why: LineRefusal,
+        kind: LineFaultKind,
         at: u64,
     },
     /// The source failed (3).
@@ -94,10 +71,15 @@ impl Status {
 }
 
 /// The line that is printed last where a line of the script can't be run.
-fn line_refused(alloc: Global, line: u64, why: LineRefusal, at: u64) -> Result<String, AllocError>
-    ensures { IfOk result (λ text. string_bytes text ≡ last_text (Status.Line line why at)) }
+fn line_refused(
+    alloc: Global,
+    line: u64,
+    kind: LineFaultKind,
+    at: u64,
+) -> Result<String, AllocError>
+    ensures { IfOk result (λ text. string_bytes text ≡ last_text (Status.Line line kind at)) }
 {
-    let number = why.number();
+    let number = kind.number();
     format!(in alloc; "line {line} fault={number} at={at}\n")
 }
 
@@ -160,7 +142,7 @@ pub fn numbered_line(alloc: Global, status: Status) -> Option<Result<String, All
     ensures none { IfNone result (last_text status ≡ fixed_text status) }
 {
     match status {
-        Status::Line { line, why, at } => Some(line_refused(alloc, line, why, at)),
+        Status::Line { line, kind, at } => Some(line_refused(alloc, line, kind, at)),
         Status::TooLong { line } => Some(line_too_long(alloc, line)),
         Status::Record { name, at, kind } => Some(record_refused(alloc, name, at, kind)),
         _ => None,

@@ -211,10 +211,9 @@ module _ {R A : Type 0} (rack : racks.Ghosts R) (area : areas.Ghosts A) (room : 
     pub answer_agent : (given : Result Reply Stop) (result : Result (Option Reply) Stop) → IsSaid given result → AgentIs rack area spare least past after x new given → AnswerIs rack area chosen past after (RunAgent least) entry now desk x now new result
     answer_agent (Ok reply) result said did =
         let sat = agent_sat x is reply new did in
-        subst (AnswerIs rack area chosen past after (RunAgent least) entry now desk x now new) (sym said) (sat.0, sat.1, tt, λ none. none)
+        subst (AnswerIs rack area chosen past after (RunAgent least) entry now desk x now new) (sym said) (sat.0, sat.1, tt)
     answer_agent (Err stop.Shelf) result said did =
-        subst (AnswerIs rack area chosen past after (RunAgent least) entry now desk x now new) (sym said) (ask_breaks rack area entry now now (RunAgent least) x desk new is did, λ none. none)
-    answer_agent (Err stop.Unbuilt) result said did = absurd did
+        subst (AnswerIs rack area chosen past after (RunAgent least) entry now desk x now new) (sym said) (ask_breaks rack area entry now now (RunAgent least) x desk new is did)
     answer_agent (Err (stop.Record metaslab place kind)) result said did = absurd did
 
 -- ---- the journal
@@ -232,29 +231,27 @@ module _ {R A : Type 0} (rack : racks.Ghosts R) (area : areas.Ghosts A) (choices
     },
     ([], (says.1, refl), sym (append-nil past)),
     tt,
-    λ none. none,
   )
   shown_open y pool is (NoMemory name.Agent) says = (
     record { new = Open y; desk = is; turns = (refl, (y, record { holds = []; mid = y; store = y.store; follows = refl; does = (refl, refl); made = refl }, refl)) },
     ([], refl, sym (append-nil past)),
     tt,
-    λ none. none,
   )
   shown_open y pool is reply says = absurd says
 
   shown_foreign : (known : Known) (pool : Pool R A) → IsDesk rack area entry now (Some pool) (Foreign known) → (reply : Reply) → ShowSays pool.geometry.spec.parity past reply → Shown (Foreign known) (Some pool) reply
   shown_foreign known pool is (Journal parity entries) says =
-      (record { new = Foreign known; desk = is; turns = (refl, (tt, known, refl, refl)) }, ([], (says.1, refl), sym (append-nil past)), tt, λ none. none)
+      (record { new = Foreign known; desk = is; turns = (refl, (tt, known, refl, refl)) }, ([], (says.1, refl), sym (append-nil past)), tt)
   shown_foreign known pool is (NoMemory name.Agent) says =
-      (record { new = Foreign known; desk = is; turns = (refl, (tt, known, refl, refl)) }, ([], refl, sym (append-nil past)), tt, λ none. none)
+      (record { new = Foreign known; desk = is; turns = (refl, (tt, known, refl, refl)) }, ([], refl, sym (append-nil past)), tt)
   shown_foreign known pool is reply says = absurd says
 
   shown_shut : (x : Desk) → IsDesk rack area entry now None x → Shown x None (NoPool name.Agent)
-  shown_shut Untouched is = (record { new = Untouched; desk = is; turns = (refl, (name.Agent, refl, refl, refl)) }, ([], refl, sym (append-nil past)), tt, λ none. none)
-  shown_shut Bare is = (record { new = Bare; desk = is; turns = (refl, (name.Agent, refl, refl, refl)) }, ([], refl, sym (append-nil past)), tt, λ none. none)
-  shown_shut (Made told failed geometry) is = (record { new = Made told failed geometry; desk = is; turns = (refl, (name.Agent, refl, refl, refl)) }, ([], refl, sym (append-nil past)), tt, λ none. none)
-  shown_shut (Shut crash y) is = (record { new = Shut crash y; desk = is; turns = (refl, (name.Agent, refl, refl, refl)) }, ([], refl, sym (append-nil past)), tt, λ none. none)
-  shown_shut Unknown is = (record { new = Unknown; desk = is; turns = (refl, (name.Agent, refl, refl, refl)) }, ([], refl, sym (append-nil past)), tt, λ none. none)
+  shown_shut Untouched is = (record { new = Untouched; desk = is; turns = (refl, (name.Agent, refl, refl, refl)) }, ([], refl, sym (append-nil past)), tt)
+  shown_shut Bare is = (record { new = Bare; desk = is; turns = (refl, (name.Agent, refl, refl, refl)) }, ([], refl, sym (append-nil past)), tt)
+  shown_shut (Made told failed geometry) is = (record { new = Made told failed geometry; desk = is; turns = (refl, (name.Agent, refl, refl, refl)) }, ([], refl, sym (append-nil past)), tt)
+  shown_shut (Shut crash y) is = (record { new = Shut crash y; desk = is; turns = (refl, (name.Agent, refl, refl, refl)) }, ([], refl, sym (append-nil past)), tt)
+  shown_shut Unknown is = (record { new = Unknown; desk = is; turns = (refl, (name.Agent, refl, refl, refl)) }, ([], refl, sym (append-nil past)), tt)
   shown_shut (Open y) is = absurd is.stands
   shown_shut (Foreign known) is = absurd is.stands
 

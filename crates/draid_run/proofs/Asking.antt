@@ -32,7 +32,6 @@ use Rattle.draid_status.specs.Says.{StatusSays}
 use Rattle.draid_visits.specs.Says.{CancelSays, RebuildSays, ScrubSays}
 use Rattle.draid_rewinds.specs.Says.{DiscardSays, RewindSays, TakeSays}
 use Rattle.draid_run.specs.Rebalancing.{RebalanceSays}
-use Rattle.draid_run.specs.Script.{IsUnbuilt}
 use Rattle.draid_run.specs.Serve.{AnswerIs, AskIs, IsSaid, opened_by}
 use Rattle.draid_pool.specs.Shelves.{OnShelf}
 use Rattle.draid_run.specs.Shelves.{MayFind}
@@ -49,50 +48,15 @@ asked_firm Silent called saids before now pool pool' is = absurd (cc is)
 asked_firm CrashPool called saids before now pool pool' is = absurd (cc is)
 asked_firm command called saids before now pool pool' is = tt
 
--- and its command is built
-asked_built : (command : Command) (called : CommandName) → asked_in command ≡ Some called → IsUnbuilt command → ⊥
-asked_built Silent called is none = none
-asked_built (CreatePool text children keys) called is none = none
-asked_built ImportPool called is none = none
-asked_built ExportPool called is none = none
-asked_built SyncPool called is none = none
-asked_built CancelPasses called is none = none
-asked_built CrashPool called is none = none
-asked_built (WriteObject object bytes) called is none = none
-asked_built (FillObjects first count len seed) called is none = none
-asked_built (ReadObject object) called is none = none
-asked_built (FreeObject object) called is none = none
-asked_built (SumObjects first count) called is none = none
-asked_built (TakeOffline leaf) called is none = none
-asked_built (TakeOnline leaf) called is none = none
-asked_built (DamageSector leaf sector) called is none = none
-asked_built (AttachSpare slot spare) called is none = none
-asked_built (ReplaceDisk slot sectors) called is none = none
-asked_built (DetachArm arm) called is none = none
-asked_built (RebuildPool limit) called is none = none
-asked_built (ScrubPool limit) called is none = none
-asked_built (RebalanceSlot slot) called is none = none
-asked_built (ShowStatus form) called is none = none
-asked_built UpgradePool called is none = none
-asked_built (OpenLanes count) called is none = absurd (cc is)
-asked_built (RunAgent least) called is none = absurd (cc is)
-asked_built ShowJournal called is none = absurd (cc is)
-asked_built TakeCheckpoint called is none = none
-asked_built RewindPool called is none = none
-asked_built DiscardCheckpoint called is none = none
-
-module _ {R A : Type 0} (rack : racks.Ghosts R) (area : areas.Ghosts A) (choices : Choices) (past : List Entry) (entry now : OnShelf) (pool : Option (Pool R A)) (x : Desk) (is : IsDesk rack area entry now pool x) (command : Command)
-    (unbuilt : asked_in command ≡ None → IsUnbuilt command) (new : Option (Pool R A)) where
+module _ {R A : Type 0} (rack : racks.Ghosts R) (area : areas.Ghosts A) (choices : Choices) (past : List Entry) (entry now : OnShelf) (pool : Option (Pool R A)) (x : Desk) (is : IsDesk rack area entry now pool x) (command : Command) (new : Option (Pool R A)) where
   pub answer_ask : (given : Result Reply Stop) (result : Result (Option Reply) Stop) → IsSaid given result → AskIs rack area choices command pool x new given
       → AnswerIs rack area choices past past command entry now pool x now new result
   answer_ask (Ok reply) result said did =
       let turned = by_ask rack area choices entry now pool reply command did.0 did.1 x new is did.2 in
       subst (AnswerIs rack area choices past past command entry now pool x now new) (sym said)
-      (turned, ([], ask_notes choices (MayFind rack area entry) past command did.0 did.1 x (alone reply) turned.new turned.turns, sym (append-nil past)), asked_firm command did.0 (alone reply) now now pool new did.1, asked_built command did.0 did.1)
-  answer_ask (Err stop.Unbuilt) result said did =
-      subst (AnswerIs rack area choices past past command entry now pool x now new) (sym said) (unbuilt did.0, refl, did.1)
+      (turned, ([], ask_notes choices (MayFind rack area entry) past command did.0 did.1 x (alone reply) turned.new turned.turns, sym (append-nil past)), asked_firm command did.0 (alone reply) now now pool new did.1)
   answer_ask (Err stop.Shelf) result said did =
-      subst (AnswerIs rack area choices past past command entry now pool x now new) (sym said) (ask_breaks rack area entry now now command x pool new is did.2, asked_built command did.0 did.1)
+      subst (AnswerIs rack area choices past past command entry now pool x now new) (sym said) (ask_breaks rack area entry now now command x pool new is did.2)
   answer_ask (Err (stop.Record which place kind)) result said did = absurd did
 
 -- an empty line, or a comment
@@ -100,16 +64,15 @@ pub turned_silent : {R A : Type 0} (rack : racks.Ghosts R) (area : areas.Ghosts 
     → IsDesk rack area entry now pool x → AnswerIs rack area choices past past (command_in line) entry now pool x now pool (Ok None)
 turned_silent rack area choices past entry now pool x line is desk =
     subst (λ l. AnswerIs rack area choices past past (command_in l) entry now pool x now pool (Ok None)) (sym is)
-    (record { new = x; desk = desk; turns = refl }, ([], refl, sym (append-nil past)), (refl, refl), λ none. none)
+    (record { new = x; desk = desk; turns = refl }, ([], refl, sym (append-nil past)), (refl, refl))
 
 -- a pool was to be made
 module _ {R A : Type 0} (rack : racks.Ghosts R) (area : areas.Ghosts A) (choices : Choices) (past : List Entry) (entry before now : OnShelf) (pool : Option (Pool R A)) (x : Desk) (new : Option (Pool R A)) (text : List ℕ) (children : ℕ) (keys : PoolKeys) where
   pub answer_create : (given : Result Reply Stop) (result : Result (Option Reply) Stop) → IsSaid given result → CreateIs rack area text children keys entry before x now new given
       → AnswerIs rack area choices past past (CreatePool text children keys) entry before pool x now new result
   answer_create (Ok reply) result said did =
-      subst (AnswerIs rack area choices past past (CreatePool text children keys) entry before pool x now new) (sym said) (by_create rack area choices entry now text children keys x reply new did, ([], refl, sym (append-nil past)), tt, λ none. none)
-  answer_create (Err stop.Shelf) result said did = subst (AnswerIs rack area choices past past (CreatePool text children keys) entry before pool x now new) (sym said) (did, λ none. none)
-  answer_create (Err stop.Unbuilt) result said did = absurd did
+      subst (AnswerIs rack area choices past past (CreatePool text children keys) entry before pool x now new) (sym said) (by_create rack area choices entry now text children keys x reply new did, ([], refl, sym (append-nil past)), tt)
+  answer_create (Err stop.Shelf) result said did = subst (AnswerIs rack area choices past past (CreatePool text children keys) entry before pool x now new) (sym said) did
   answer_create (Err (stop.Record which place kind)) result said did = absurd did
 
 -- what is so of each reply is so of that of an answer
@@ -118,9 +81,6 @@ each_reply (Ok reply) P each = each reply
 each_reply (Err failed) P each = tt
 
 -- ---- lines
-
-pub some_asked : {called : CommandName} → Some called ≡ None → ⊥
-some_asked is = cc is
 
 -- a line that asks nothing of the pool that is open
 pub asks_nothing : (line : Line) → ((object : ℕ) (bytes : Vec ℕ Global) → line ≡ variant.Write object bytes → ⊥)
@@ -175,44 +135,44 @@ asks_nothing variant.Checkpoint write fill read free sum offline online damage s
 asks_nothing variant.Rewind write fill read free sum offline online damage spare replace status detach upgrade rebuild scrub cancel rebalance sync checkpoint rewind discard = absurd (rewind refl)
 asks_nothing variant.Discard write fill read free sum offline online damage spare replace status detach upgrade rebuild scrub cancel rebalance sync checkpoint rewind discard = absurd (discard refl)
 
--- and nothing of the shelf: its command is beyond what is built
-pub is_unbuilt : (line : Line) → (line ≡ variant.Nothing → ⊥)
+-- and one that isn't among those that the run answers by itself asks something of it
+pub asks_pool : (line : Line) → (line ≡ variant.Nothing → ⊥)
     → ((spec : Vec ℕ Global) (children : ℕ) (keys : PoolKeys) → line ≡ variant.Create spec children keys → ⊥)
     → (line ≡ variant.Import → ⊥)
     → (line ≡ variant.Export → ⊥)
     → (line ≡ variant.Crash → ⊥)
     → ((least : ℕ) → line ≡ variant.Agent least → ⊥)
     → (line ≡ variant.AgentLog → ⊥) → opened_by (command_in line) ≡ None
-    → asked_in (command_in line) ≡ None → IsUnbuilt (command_in line)
-is_unbuilt variant.Nothing nothing create opens export crash agent log alone none = absurd (nothing refl)
-is_unbuilt (variant.Create spec children keys) nothing create opens export crash agent log alone none = absurd (create spec children keys refl)
-is_unbuilt variant.Import nothing create opens export crash agent log alone none = absurd (opens refl)
-is_unbuilt variant.Export nothing create opens export crash agent log alone none = absurd (export refl)
-is_unbuilt variant.Sync nothing create opens export crash agent log alone none = absurd (cc none)
-is_unbuilt variant.Cancel nothing create opens export crash agent log alone none = absurd (cc none)
-is_unbuilt variant.Crash nothing create opens export crash agent log alone none = absurd (crash refl)
-is_unbuilt (variant.Write object bytes) nothing create opens export crash agent log alone none = absurd (cc none)
-is_unbuilt (variant.Fill first count len seed) nothing create opens export crash agent log alone none = absurd (cc none)
-is_unbuilt (variant.Read object) nothing create opens export crash agent log alone none = absurd (cc none)
-is_unbuilt (variant.Free object) nothing create opens export crash agent log alone none = absurd (cc none)
-is_unbuilt (variant.Sum first count) nothing create opens export crash agent log alone none = absurd (cc none)
-is_unbuilt (variant.Offline leaf) nothing create opens export crash agent log alone none = absurd (cc none)
-is_unbuilt (variant.Online leaf) nothing create opens export crash agent log alone none = absurd (cc none)
-is_unbuilt (variant.Damage leaf sector) nothing create opens export crash agent log alone none = absurd (cc none)
-is_unbuilt (variant.Spare slot spare) nothing create opens export crash agent log alone none = absurd (cc none)
-is_unbuilt (variant.Replace slot sectors) nothing create opens export crash agent log alone none = absurd (cc none)
-is_unbuilt (variant.Detach arm) nothing create opens export crash agent log alone none = absurd (cc none)
-is_unbuilt (variant.Rebuild limit) nothing create opens export crash agent log alone none = absurd (cc none)
-is_unbuilt (variant.Scrub limit) nothing create opens export crash agent log alone none = absurd (cc none)
-is_unbuilt (variant.Rebalance slot) nothing create opens export crash agent log alone none = absurd (cc none)
-is_unbuilt (variant.Status form) nothing create opens export crash agent log alone none = absurd (cc none)
-is_unbuilt (variant.Lanes count) nothing create opens export crash agent log alone none = absurd (cc alone)
-is_unbuilt variant.Upgrade nothing create opens export crash agent log alone none = absurd (cc none)
-is_unbuilt (variant.Agent least) nothing create opens export crash agent log alone none = absurd (agent least refl)
-is_unbuilt variant.AgentLog nothing create opens export crash agent log alone none = absurd (log refl)
-is_unbuilt variant.Checkpoint nothing create opens export crash agent log alone none = absurd (cc none)
-is_unbuilt variant.Rewind nothing create opens export crash agent log alone none = absurd (cc none)
-is_unbuilt variant.Discard nothing create opens export crash agent log alone none = absurd (cc none)
+    → asked_in (command_in line) ≡ None → ⊥
+asks_pool variant.Nothing nothing create opens export crash agent log alone none = nothing refl
+asks_pool (variant.Create spec children keys) nothing create opens export crash agent log alone none = create spec children keys refl
+asks_pool variant.Import nothing create opens export crash agent log alone none = opens refl
+asks_pool variant.Export nothing create opens export crash agent log alone none = export refl
+asks_pool variant.Sync nothing create opens export crash agent log alone none = cc none
+asks_pool variant.Cancel nothing create opens export crash agent log alone none = cc none
+asks_pool variant.Crash nothing create opens export crash agent log alone none = crash refl
+asks_pool (variant.Write object bytes) nothing create opens export crash agent log alone none = cc none
+asks_pool (variant.Fill first count len seed) nothing create opens export crash agent log alone none = cc none
+asks_pool (variant.Read object) nothing create opens export crash agent log alone none = cc none
+asks_pool (variant.Free object) nothing create opens export crash agent log alone none = cc none
+asks_pool (variant.Sum first count) nothing create opens export crash agent log alone none = cc none
+asks_pool (variant.Offline leaf) nothing create opens export crash agent log alone none = cc none
+asks_pool (variant.Online leaf) nothing create opens export crash agent log alone none = cc none
+asks_pool (variant.Damage leaf sector) nothing create opens export crash agent log alone none = cc none
+asks_pool (variant.Spare slot spare) nothing create opens export crash agent log alone none = cc none
+asks_pool (variant.Replace slot sectors) nothing create opens export crash agent log alone none = cc none
+asks_pool (variant.Detach arm) nothing create opens export crash agent log alone none = cc none
+asks_pool (variant.Rebuild limit) nothing create opens export crash agent log alone none = cc none
+asks_pool (variant.Scrub limit) nothing create opens export crash agent log alone none = cc none
+asks_pool (variant.Rebalance slot) nothing create opens export crash agent log alone none = cc none
+asks_pool (variant.Status form) nothing create opens export crash agent log alone none = cc none
+asks_pool (variant.Lanes count) nothing create opens export crash agent log alone none = cc alone
+asks_pool variant.Upgrade nothing create opens export crash agent log alone none = cc none
+asks_pool (variant.Agent least) nothing create opens export crash agent log alone none = agent least refl
+asks_pool variant.AgentLog nothing create opens export crash agent log alone none = log refl
+asks_pool variant.Checkpoint nothing create opens export crash agent log alone none = cc none
+asks_pool variant.Rewind nothing create opens export crash agent log alone none = cc none
+asks_pool variant.Discard nothing create opens export crash agent log alone none = cc none
 
 -- ---- what a pool replies, by the line
 

@@ -29,7 +29,7 @@ use Rattle.draid_run.proofs.Serving.{as_found}
 -- ---- a run breaks off
 
 -- a desk whose shelf tells, agrees
-left_agrees : (desk : Desk) (entry now : OnShelf) → HoldsDesk (left_of desk) entry now → is_some now.held ≡ true → Agrees true desk
+pub left_agrees : (desk : Desk) (entry now : OnShelf) → HoldsDesk (left_of desk) entry now → is_some now.held ≡ true → Agrees true desk
 left_agrees Untouched entry now holds tells = tt
 left_agrees Bare entry now holds tells = refl
 left_agrees (Made told failed geometry) entry now holds tells = holds.told_is ∙ tells
@@ -69,7 +69,7 @@ ends_at lines ended (Some text) saids mid last b asked keeps agrees off = absurd
 -- ---- desks of the next run
 
 -- a desk that a shelf holds has no open pool
-holds_left : (desk : Desk) (shelf : OnShelf) → HoldsDesk desk shelf shelf → left_of desk ≡ desk
+pub holds_left : (desk : Desk) (shelf : OnShelf) → HoldsDesk desk shelf shelf → left_of desk ≡ desk
 holds_left (Open x) shelf holds = absurd holds
 holds_left (Foreign known) shelf holds = absurd holds
 holds_left desk shelf holds = refl

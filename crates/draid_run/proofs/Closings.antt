@@ -137,9 +137,8 @@ module _ {R A : Type 0} (rack : racks.Ghosts R) (area : areas.Ghosts A) (choices
   -- ---- the answers of the commands
   module _ (past : List Entry) (pool : Option (Pool R A)) (x : Desk) (new : Option (Pool R A)) where
     pub answer_export : (given : Result Reply Stop) (result : Result (Option Reply) Stop) → IsSaid given result → ExportIs rack area entry x now new given → AnswerIs rack area choices past past ExportPool entry before pool x now new result
-    answer_export (Ok reply) result said did = subst (AnswerIs rack area choices past past ExportPool entry before pool x now new) (sym said) (by_export x reply new did, ([], refl, sym (append-nil past)), tt, λ none. none)
-    answer_export (Err stop.Shelf) result said did = subst (AnswerIs rack area choices past past ExportPool entry before pool x now new) (sym said) (export_breaks x new did, λ none. none)
-    answer_export (Err stop.Unbuilt) result said did = absurd did
+    answer_export (Ok reply) result said did = subst (AnswerIs rack area choices past past ExportPool entry before pool x now new) (sym said) (by_export x reply new did, ([], refl, sym (append-nil past)), tt)
+    answer_export (Err stop.Shelf) result said did = subst (AnswerIs rack area choices past past ExportPool entry before pool x now new) (sym said) (export_breaks x new did)
     answer_export (Err (stop.Record which place kind)) result said did = absurd did
 
 -- ---- the pool is given back, or stays open

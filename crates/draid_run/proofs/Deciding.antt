@@ -147,6 +147,5 @@ module _ {R A : Type 0} (rack : racks.Ghosts R) (area : areas.Ghosts A) (room : 
 
   pub asked_with : (pool : Option (Pool R A)) (x : Desk) (new : Option (Pool R A)) (given : Result Reply Stop) → AskIs rack area (choices_by room) command pool x new given → AskIs rack area (choices_with room spare) command pool x new given
   asked_with pool x new (Ok reply) did = (did.0, did.1, did_with did.0 did.1 x reply new did.2)
-  asked_with pool x new (Err stop.Unbuilt) did = did
   asked_with pool x new (Err stop.Shelf) did = did
   asked_with pool x new (Err (stop.Record metaslab place kind)) did = did

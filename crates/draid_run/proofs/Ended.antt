@@ -209,7 +209,6 @@ module _ {R A : Type 0} (rack : racks.Ghosts R) (area : areas.Ghosts A) (choices
     since = λ e. absurd (cc e);
     bad = λ which place kind e. absurd (cc e);
     firm = is.firm;
-    built = is.built;
   }
 
   -- what was served, as the run of these words
@@ -229,7 +228,6 @@ module _ {R A : Type 0} (rack : racks.Ghosts R) (area : areas.Ghosts A) (choices
       saids = is.saids;
       to = is.to;
       runs = is.runs;
-      built = is.built;
       may = is.may;
       breaks = is.breaks;
       ends = is.ends;
@@ -293,7 +291,6 @@ module _ {R A : Type 0} (rack : racks.Ghosts R) (area : areas.Ghosts A) (choices
         saids = [];
         to = Outside;
         runs = (refl, refl);
-        built = tt;
         may = may;
         breaks = breaks;
         ends = ends input;

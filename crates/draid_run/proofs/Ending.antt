@@ -10,17 +10,17 @@ use Rattle.draid_lines.specs.Lines.{IsTooLong, is_end, lines_of}
 use Rattle.draid_lines.proofs.Ends.{lines_first, lines_last, position-le}
 use Rattle.draid_script.specs.Line.{Command, ImportPool}
 use Rattle.draid_script.specs.declared.fault.LineFault.{LineFault}
+use Rattle.draid_script.specs.declared.fault.LineFaultKind.{LineFaultKind}
 use Rattle.draid_session.specs.Choices.{Choices}
 use Rattle.draid_session.specs.Places.{Ended, Inside, IsInside, IsOutside, Outside, Place, line_behind, place_after}
 use Rattle.draid_session.specs.Said.{Said}
 use Rattle.draid_session.specs.Session.{Desk, Untouched, Bare, Made, Open, Shut, Foreign, Unknown, Breaks, BreaksGiven, RecordFails}
 use Rattle.draid_session.specs.State.{State}
-use Rattle.draid_run.specs.Ending.{CanRun, EndsWell, IsBuilt, IsUndisturbed, IsUntold}
+use Rattle.draid_run.specs.Ending.{CanRun, EndsWell, IsTaken, IsUndisturbed, IsUntold}
 use Rattle.draid_words.specs.Mode.{asked}
 use Rattle.draid_run.specs.Script.{BreaksOff, Ends, IsSession, LineFaultIs, Prints, RunsFrom}
 use Rattle.draid_pool.specs.Shelves.{OnShelf}
 use Rattle.draid_exits.specs.Status.{last_text}
-use Rattle.draid_exits.specs.declared.status.LineRefusal.{LineRefusal}
 use Rattle.draid_exits.specs.declared.status.Status.{Status}
 use Rattle.draid_exits.specs.declared.status.Status.TheVariants.{Done, Usage, Line, SourceFault, SinkFault, NoMemory, TooLong, ShelfFault, Record}
 
@@ -70,9 +70,9 @@ not_long input lines rest can is (inr full) =
     let many = full.0 in
     omega (arith, longer, all, one, few, many)
 
-not_built : (line : Result Command LineFault) (why : LineRefusal) (at : ℕ) → IsBuilt line → LineFaultIs line why at → ⊥
-not_built (Ok command) why at built fault = built fault.0
-not_built (Err other) why at built fault = built
+not_taken : (line : Result Command LineFault) (kind : LineFaultKind) (at : ℕ) → IsTaken line → LineFaultIs line kind at → ⊥
+not_taken (Ok command) kind at taken fault = fault
+not_taken (Err other) kind at taken fault = taken
 
 not_both : (place : Place) → IsInside place → IsOutside place → ⊥
 not_both Outside inside outside = inside
@@ -109,7 +109,7 @@ module _ {R A : Type 0} (rack : racks.Ghosts R) (area : areas.Ghosts A) (choices
   by_end Done broken lines saids mid last quiet usage breaks ends = tt
   by_end Usage broken lines saids mid last quiet usage breaks ends = (let none = usage refl in let some = session.1 in absurd (cc (none, some)))
   by_end (Line line kind at) broken lines saids mid last quiet usage breaks ends =
-      elim ends.0 [ inl bad ↦ not_built (line_behind lines bad.0) kind at (can.built lines bad.0 bad.1 bad.2) bad.3 | inr inside ↦ absurd (not_both (place_after Outside lines) inside.1 (subst (λ ls. IsOutside (place_after Outside ls)) inside.0 can.outside)) ]
+      elim ends.0 [ inl bad ↦ not_taken (line_behind lines bad.0) kind at (can.taken lines bad.0 bad.1 bad.2) bad.3 | inr inside ↦ absurd (not_both (place_after Outside lines) inside.1 (subst (λ ls. IsOutside (place_after Outside ls)) inside.0 can.outside)) ]
   by_end (TooLong line) broken lines saids mid last quiet usage breaks ends = not_long input lines ends.0 can ends.1 ends.2
   by_end SourceFault broken lines saids mid last quiet usage breaks ends = quiet.source refl
   by_end SinkFault broken lines saids mid last quiet usage breaks ends = quiet.sink refl

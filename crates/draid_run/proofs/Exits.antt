@@ -12,6 +12,7 @@ use Rattle.draid_lines.specs.declared.lines.ReadFault.TheVariants as reads
 use Rattle.draid_script.specs.Grammar.{line_of}
 use Rattle.draid_script.specs.Line.{Command, OpenLanes}
 use Rattle.draid_script.specs.declared.fault.LineFault.{LineFault}
+use Rattle.draid_script.specs.declared.fault.LineFaultKind.{LineFaultKind}
 use Rattle.draid_reply.specs.Reply.{text_of}
 use Rattle.draid_reply.specs.declared.reply.Reply.{Reply}
 use Rattle.draid_session.specs.Said.{Said, alone}
@@ -26,12 +27,9 @@ use Rattle.draid_run.specs.Lines.{IsNoOpening}
 use Rattle.draid_run.specs.Serve.{AnswerIs, LineIs, Placed, opened_by, status_of}
 use Rattle.draid_print.specs.Printing.{PrintIs}
 use Rattle.draid_run.specs.Shelves.{MayFind}
-use Rattle.draid_run.specs.Script.{IsBuilt, LineFaultIs}
 use Rattle.draid_pool.specs.Shelves.{OnShelf}
 use Rattle.draid_run.specs.declared.answer.Stop.{Stop}
 use Rattle.draid_run.specs.declared.answer.Stop.TheVariants as stop
-use Rattle.draid_exits.specs.declared.status.LineRefusal.{LineRefusal}
-use Rattle.draid_exits.specs.declared.status.LineRefusal.TheVariants as refusal
 use Rattle.draid_exits.specs.declared.status.Status.{Status}
 use Rattle.draid_print.proofs.Appending.{appends_none}
 use Rattle.draid_exits.specs.declared.status.Status.TheVariants.{Done, Usage, Line, SourceFault, SinkFault, NoMemory, TooLong, ShelfFault, Record}
@@ -94,21 +92,20 @@ module _ (P : Type 0) where
   pub done_cause : Ok tt ≡ stopped SinkFault → P
   done_cause is = absurd (cc is)
 
-  pub line_cause : (number : ℕ) (why : LineRefusal) (at : ℕ) → stopped (Line number why at) ≡ stopped SinkFault → P
-  line_cause number why at is = absurd (cc is)
+  pub line_cause : (number : ℕ) (kind : LineFaultKind) (at : ℕ) → stopped (Line number kind at) ≡ stopped SinkFault → P
+  line_cause number kind at is = absurd (cc is)
 
   pub memory_cause : stopped NoMemory ≡ stopped SinkFault → P
   memory_cause is = absurd (cc is)
 
   pub stop_cause : (number : ℕ) (why : Stop) (status : Status) → status ≡ status_of number why → stopped status ≡ stopped SinkFault → P
-  stop_cause number stop.Unbuilt status is sink = absurd (cc (is, sink))
   stop_cause number stop.Shelf status is sink = absurd (cc (is, sink))
   stop_cause number (stop.Record which place kind) status is sink = absurd (cc (is, sink))
 
 -- a line was answered, and by so much the journal was longer behind it
 abbrev pub Answered : {R A : Type 0} → racks.Ghosts R → areas.Ghosts A → Choices → List Entry → List Entry → OnShelf → OnShelf → Option (Pool R A) → Desk → List Said → OnShelf → Option (Pool R A) → Result Command LineFault → Type 0
 Answered rack area choices past after entry before pool x saids now pool' line =
-    (turned : Turned rack area choices line entry x saids now pool') × Noted rack area choices line entry x saids now pool' turned past after × LeavesFirm line saids before pool now pool' × IsBuilt line
+    (turned : Turned rack area choices line entry x saids now pool') × Noted rack area choices line entry x saids now pool' turned past after × LeavesFirm line saids before pool now pool'
 
 -- a line that opens no section
 pub no_opening : (command : Command) → opened_by command ≡ None → IsNoOpening (Ok command)
@@ -131,13 +128,13 @@ module _ {R A : Type 0} (rack : racks.Ghosts R) (area : areas.Ghosts A) (choices
 
 -- one reply to a line was printed or not
 module _ {R A : Type 0} (rack : racks.Ghosts R) (area : areas.Ghosts A) (choices : Choices) (past after : List Entry) (from : Place) (number : ℕ) (text : List ℕ) (entry before : OnShelf) (pool : Option (Pool R A)) (x : Desk) (now : OnShelf) (pool' : Option (Pool R A)) (reply : Reply) (held held' : Option (List ℕ))
-    (placed : Placed rack area choices past after from text entry x (alone reply) now pool' Outside) (firm : LeavesFirmAt from text (alone reply) before pool now pool') (built : IsBuilt (line_at from text)) where
+    (placed : Placed rack area choices past after from text entry x (alone reply) now pool' Outside) (firm : LeavesFirmAt from text (alone reply) before pool now pool') where
   pub printed_alone : (result : Result Unit Status) → PrintIs (text_of reply) held held' result → LineIs rack area choices past after from number text entry before pool x now pool' held held' Outside result
-  printed_alone (Ok done) prints = record { saids = alone reply; placed = placed; firm = firm; built = built; prints = subst (λ text. Appends held held' text) (sym (append-nil (text_of reply))) prints }
+  printed_alone (Ok done) prints = record { saids = alone reply; placed = placed; firm = firm; prints = subst (λ text. Appends held held' text) (sym (append-nil (text_of reply))) prints }
   printed_alone (Err SinkFault) prints =
-      record { part = []; said = record { lane = None; reply = reply }; rest = []; mid = held; to = Outside; ends = tt; placed = placed; firm = firm; built = built; whole = appends_none held; prints = prints }
+      record { part = []; said = record { lane = None; reply = reply }; rest = []; mid = held; to = Outside; ends = tt; placed = placed; firm = firm; whole = appends_none held; prints = prints }
   printed_alone (Err NoMemory) prints =
-      inr (record { part = []; said = record { lane = None; reply = reply }; rest = []; to = Outside; ends = tt; placed = placed; firm = firm; built = built; prints = subst (λ now. Appends held now []) (sym prints) (appends_none held) })
+      inr (record { part = []; said = record { lane = None; reply = reply }; rest = []; to = Outside; ends = tt; placed = placed; firm = firm; prints = subst (λ now. Appends held now []) (sym prints) (appends_none held) })
   printed_alone (Err Done) prints = absurd prints
   printed_alone (Err Usage) prints = absurd prints
   printed_alone (Err (Line line kind at)) prints = absurd prints
@@ -151,14 +148,13 @@ module _ {R A : Type 0} (rack : racks.Ghosts R) (area : areas.Ghosts A) (choices
   pub line_told : (result : Result Unit Status) → Answered rack area choices past after entry before pool x (alone reply) now pool' (line_of text) → PrintIs (text_of reply) held held' result
       → LineIs rack area choices past after Outside number text entry before pool x now pool' held held' Outside result
   line_told result it prints =
-      printed_alone rack area choices past after Outside number text entry before pool x now pool' reply held held' (answered_outside rack area choices past after text entry before pool x (alone reply) now pool' none it) it.2 it.3 result prints
+      printed_alone rack area choices past after Outside number text entry before pool x now pool' reply held held' (answered_outside rack area choices past after text entry before pool x (alone reply) now pool' none it) it.2 result prints
 
 -- a line has no reply, and the run ends
 module _ {R A : Type 0} (rack : racks.Ghosts R) (area : areas.Ghosts A) (choices : Choices) (past after : List Entry) (number : ℕ) (text : List ℕ) (entry before : OnShelf) (pool : Option (Pool R A)) (x : Desk) (now : OnShelf) (pool' : Option (Pool R A)) (held : Option (List ℕ)) (command : Command) (line : line_of text ≡ Ok command) where
   by_stop : (why : Stop) → AnswerIs rack area choices past after command entry before pool x now pool' (Err why) → LineIs rack area choices past after Outside number text entry before pool x now pool' held held Outside (Err (status_of number why))
-  by_stop stop.Unbuilt answered = (subst (λ r. LineFaultIs r refusal.Unbuilt 0) (sym line) (answered.0, refl, refl), answered.1, answered.2, refl, refl)
-  by_stop stop.Shelf answered = inl (refl, refl, record { command = command; line = line; built = answered.1; broken = answered.0 })
-  by_stop (stop.Record which place kind) answered = (refl, refl, record { command = command; line = line; built = answered.2; broken = answered.0 }, answered.1)
+  by_stop stop.Shelf answered = inl (refl, refl, record { command = command; line = line; broken = answered })
+  by_stop (stop.Record which place kind) answered = (refl, refl, record { command = command; line = line; broken = answered.0 }, answered.1)
 
   pub line_stopped : (why : Stop) (status : Status) → status ≡ status_of number why → AnswerIs rack area choices past after command entry before pool x now pool' (Err why)
       → LineIs rack area choices past after Outside number text entry before pool x now pool' held held Outside (Err status)

@@ -465,10 +465,9 @@ module _ {R A : Type 0} (rack : racks.Ghosts R) (area : areas.Ghosts A) (choices
 
   pub answer_import : (past : List Entry) (pool : Option (Pool R A)) (x : Desk) (new : Option (Pool R A)) (given : Result Reply Stop) (result : Result (Option Reply) Stop) → IsSaid given result
       → ImportIs rack area entry before x now new given → AnswerIs rack area choices past past ImportPool entry before pool x now new result
-  answer_import past pool x new (Ok reply) result said did = subst (AnswerIs rack area choices past past ImportPool entry before pool x now new) (sym said) (by_import x reply new did, ([], refl, sym (append-nil past)), tt, λ none. none)
-  answer_import past pool x new (Err stop.Shelf) result said did = subst (AnswerIs rack area choices past past ImportPool entry before pool x now new) (sym said) (did, λ none. none)
-  answer_import past pool x new (Err (stop.Record which place kind)) result said did = subst (AnswerIs rack area choices past past ImportPool entry before pool x now new) (sym said) (did.0, did.1, λ none. none)
-  answer_import past pool x new (Err stop.Unbuilt) result said did = absurd did
+  answer_import past pool x new (Ok reply) result said did = subst (AnswerIs rack area choices past past ImportPool entry before pool x now new) (sym said) (by_import x reply new did, ([], refl, sym (append-nil past)), tt)
+  answer_import past pool x new (Err stop.Shelf) result said did = subst (AnswerIs rack area choices past past ImportPool entry before pool x now new) (sym said) did
+  answer_import past pool x new (Err (stop.Record which place kind)) result said did = subst (AnswerIs rack area choices past past ImportPool entry before pool x now new) (sym said) did
 
 -- a pool is open already
 pub already_open : {R A : Type 0} (rack : racks.Ghosts R) (area : areas.Ghosts A) (entry now : OnShelf) (desk : Option (Pool R A)) (x : Desk) → is_some desk ≡ true → IsDesk rack area entry now desk x

@@ -3,6 +3,7 @@ pub mod Asking
 pub mod Balanced
 pub mod Behind
 pub mod Booked
+pub mod BookedMarked
 pub mod Broke
 pub mod Checks
 pub mod Closings

@@ -20,13 +20,12 @@ use Rattle.draid_pool.specs.declared.pool.Pool.{Pool}
 use Rattle.draid_exits.specs.declared.status.RecordName.{RecordName}
 use Rattle.draid_run.specs.Crashes.{IsFirmShut, LeavesFirmAt, crash_came_last}
 use Rattle.draid_run.specs.Desks.{IsDesk}
-use Rattle.draid_run.specs.Script.{AreBuilt, IsBuilt, all_said, BreaksOff, Ends, EndsSection, FaultyShut, GetsReplies, LastStep, LineFaultIs, MayEndAt, Shows}
+use Rattle.draid_run.specs.Script.{all_said, BreaksOff, Ends, EndsSection, FaultyShut, GetsReplies, LastStep, LineFaultIs, MayEndAt, Shows}
 use Rattle.draid_print.specs.Printing.{said_text, texts_of}
 use Rattle.draid_run.specs.Serve.{BrokenLine, Cut, LaneStopped, LineIs, Placed, Printed, Served, Serving, TextIs, Untold, end_at}
 use Rattle.draid_pool.specs.Shelves.{OnShelf}
 use Rattle.draid_run.specs.Shelves.{FaultIn, HasFailed, HasFault, HoldsDesk, HoldsFault, MakesLeavesAt, MakesLeavesBy, IsClosed, MayFind, RackFault, TellsAsBefore}
-use Rattle.draid_exits.specs.declared.status.LineRefusal.{LineRefusal}
-use Rattle.draid_exits.specs.declared.status.LineRefusal.TheVariants as refusal
+use Rattle.draid_script.specs.declared.fault.LineFaultKind.{LineFaultKind}
 use Rattle.draid_script.specs.declared.fault.LineFaultKind.TheVariants as line_fault
 use Rattle.draid_exits.specs.declared.status.Status.{Status}
 use Rattle.draid_exits.specs.declared.status.Status.TheVariants.{Done, Usage, Line, SourceFault, SinkFault, NoMemory, TooLong, ShelfFault, Record}
@@ -131,16 +130,11 @@ fault_at rack area entry before now pool later lines text command line x fault =
   | inr whole ↦ inr (subst MakesLeavesBy (sym line) whole.0, whole.1)
 ]
 
--- one more line that asks for what is built
-built_more : (place : Place) (lines : List (List ℕ)) (line : List ℕ) → AreBuilt place lines → IsBuilt (line_at (place_after place lines) line) → AreBuilt place (lines ++ line ∷ [])
-built_more place [] line are is = (is, tt)
-built_more place (front ∷ lines) line are is = (are.0, built_more (place_behind place front) lines line are.1 is)
-
 -- where a run may end whose line can't be run, or that can't be read on
-may_line : (place : Place) (number : ℕ) (why : LineRefusal) (at : ℕ) → (place ≡ Ended → ⊥) → MayEndAt place (Line number why at) None
-may_line Outside number why at more = tt
-may_line (Inside lanes) number why at more = tt
-may_line Ended number why at more = absurd (more refl)
+may_line : (place : Place) (number : ℕ) (kind : LineFaultKind) (at : ℕ) → (place ≡ Ended → ⊥) → MayEndAt place (Line number kind at) None
+may_line Outside number kind at more = tt
+may_line (Inside lanes) number kind at more = tt
+may_line Ended number kind at more = absurd (more refl)
 
 may_source : (place : Place) → (place ≡ Ended → ⊥) → MayEndAt place SourceFault None
 may_source Outside more = tt
@@ -258,7 +252,6 @@ module _ {R A : Type 0} (rack : racks.Ghosts R) (area : areas.Ghosts A) (choices
     printed = appends_none start;
     unanswered = λ none. refl;
     firm = λ came. absurd (cc came);
-    built = tt;
   } where
     starts : (a : Option (List ℕ)) → WhereKnown a (prepend_known [] a) (λ all behind. lines_of all ≡ [] ++ lines_of behind)
     starts None = tt
@@ -284,9 +277,6 @@ module _ {R A : Type 0} (rack : racks.Ghosts R) (area : areas.Ghosts A) (choices
         → (crash_came_last Outside false lines replies ≡ true → IsFirmShut before pool) → LeavesFirmAt from line saids before pool now pool' → crash_came_last Outside false (lines ++ line ∷ []) (replies ++ saids ∷ []) ≡ true → IsFirmShut now pool'
     firm_so lines replies from mid line saids before now pool pool' runs stands firm leaves =
         firm_more choices (MayFind rack area entry) (is_some entry.held) (sits first []) lines replies from mid line saids before now pool pool' runs stands firm leaves
-
-    built_so : (lines : List (List ℕ)) (from : Place) (line : List ℕ) → place_after Outside lines ≡ from → AreBuilt Outside lines → IsBuilt (line_at from line) → AreBuilt Outside (lines ++ line ∷ [])
-    built_so lines from line stands are is = built_more Outside lines line are (subst (λ p. IsBuilt (line_at p line)) (sym stands) is)
 
     -- a lane was stopped in the last line
     stops_so : (past after : List Entry) (lines : List (List ℕ)) (replies : List (List Said)) (from : Place) (mid : Desk) (line : List ℕ) (saids : List Said) (now : OnShelf) (pool : Option (Pool R A)) (to : Place) (runs : RunsSo lines replies from (sits mid past))
@@ -331,7 +321,6 @@ module _ {R A : Type 0} (rack : racks.Ghosts R) (area : areas.Ghosts A) (choices
           printed = rw (texts_more is.replies printed.saids) (appends_more start held held' _ _ is.printed printed.prints);
           unanswered = λ none. absurd (not_none is.lines line none);
           firm = firm_so is.lines is.replies from (sits is.reached past) line printed.saids before now pool pool' is.runs is.stands is.firm printed.firm;
-          built = built_so is.lines from line is.stands is.built printed.built;
         }
 
     -- The run ends with no line under way, for a cause that is neither a failing shelf nor a record's fault.
@@ -360,7 +349,6 @@ module _ {R A : Type 0} (rack : racks.Ghosts R) (area : areas.Ghosts A) (choices
       since = λ e. absurd (no_shelf e);
       bad = λ which place kind e. absurd (no_record which place kind e);
       firm = λ rest. is.firm;
-      built = is.built;
     }
 
     -- all lines of the input were answered
@@ -380,8 +368,8 @@ module _ {R A : Type 0} (rack : racks.Ghosts R) (area : areas.Ghosts A) (choices
         refl is.printed (λ e. cc e) (λ which place kind e. cc e)
     served_done (Inside lanes) past input rest rest' start held now pool count number n is end =
         let counted = is.count_is in
-        at_rest (Inside lanes) past input rest start held now pool count is (Line number (refusal.Fault line_fault.Lane) 0) tt (refl, refl)
-        (all_lines input rest rest' is.lines is.known end (Ends (Line number (refusal.Fault line_fault.Lane) 0) None is.lines) (λ bytes e.
+        at_rest (Inside lanes) past input rest start held now pool count is (Line number line_fault.Lane 0) tt (refl, refl)
+        (all_lines input rest rest' is.lines is.known end (Ends (Line number line_fault.Lane 0) None is.lines) (λ bytes e.
         (inr (e, subst IsInside (sym is.stands) tt, refl, refl), omega (arith, counted, n))))
         refl is.printed (λ e. cc e) (λ which place kind e. cc e)
     served_done Ended past input rest rest' start held now pool count number n is end = absurd (is.goes_on refl)
@@ -424,7 +412,7 @@ module _ {R A : Type 0} (rack : racks.Ghosts R) (area : areas.Ghosts A) (choices
           (known_on input rest rest' (λ all behind. lines_of all ≡ is.lines ++ lines_of behind) (λ old new. lines_of old ≡ line ∷ lines_of new) (λ all z. lines_of all ≡ is.lines ++ (line ∷ lines_of z)) (λ x y z a b. a ∙ ap (λ xs. is.lines ++ xs) b) is.known behind)
 
       -- it can't be run
-      unrun : (number : ℕ) (why : LineRefusal) (at : ℕ) → LineFaultIs (line_at from line) why at → number ≡ count + 1 → Served rack area choices first (Line number why at) input start held entry before pool
+      unrun : (number : ℕ) (kind : LineFaultKind) (at : ℕ) → LineFaultIs (line_at from line) kind at → number ≡ count + 1 → Served rack area choices first (Line number kind at) input start held entry before pool
       unrun number kind at fault n =
           let counted = is.count_is in
           at_rest from past input rest start held before pool count is (Line number kind at) (may_line from number kind at is.goes_on) (refl, refl)
@@ -482,7 +470,6 @@ module _ {R A : Type 0} (rack : racks.Ghosts R) (area : areas.Ghosts A) (choices
           since = λ e. absurd (cc e);
           bad = λ which place kind e. absurd (cc e);
           firm = λ rest. firm_so is.lines is.replies from (sits is.reached past) line (cut.part ++ cut.said ∷ cut.rest) before now pool pool' is.runs is.stands is.firm cut.firm;
-          built = built_so is.lines from line is.stands is.built cut.built;
         }
 
         -- memory was wanting for the text of its reply
@@ -509,7 +496,6 @@ module _ {R A : Type 0} (rack : racks.Ghosts R) (area : areas.Ghosts A) (choices
           since = λ e. absurd (cc e);
           bad = λ which place kind e. absurd (cc e);
           firm = λ rest. firm_so is.lines is.replies from (sits is.reached past) line (cut.part ++ cut.said ∷ cut.rest) before now pool pool' is.runs is.stands is.firm cut.firm;
-          built = built_so is.lines from line is.stands is.built cut.built;
         }
 
         -- a failing device ended a lane of the section that it ended
@@ -536,7 +522,6 @@ module _ {R A : Type 0} (rack : racks.Ghosts R) (area : areas.Ghosts A) (choices
           since = λ e closed. absurd (stopped_open area pool' is.reached it.placed.new (it.placed.stopped refl) closed);
           bad = λ which place kind e. absurd (cc e);
           firm = λ rest. firm_so is.lines is.replies from (sits is.reached past) line it.saids before now pool pool' is.runs is.stands is.firm it.firm;
-          built = built_so is.lines from line is.stands is.built it.built;
         }
 
         -- the shelf failed
@@ -557,7 +542,7 @@ module _ {R A : Type 0} (rack : racks.Ghosts R) (area : areas.Ghosts A) (choices
               runs = is.runs;
               may = subst (λ p. MayEndAt p ShelfFault (Some line)) (sym outside) tt;
               stopped = λ e. absurd (is.goes_on e);
-              breaks = record { command = at.command; line = asked; none = refl; built = at.built; breaks = at.broken.breaks };
+              breaks = record { command = at.command; line = asked; none = refl; breaks = at.broken.breaks };
               ends = taken;
               shows = refl;
               prints = is.printed;
@@ -565,7 +550,6 @@ module _ {R A : Type 0} (rack : racks.Ghosts R) (area : areas.Ghosts A) (choices
               since = λ e. fails_shut rack area line is.lines at.command is.reached at.broken.new entry before now pool' asked is.desk.shelf later is.unanswered at.broken.cause;
               bad = λ which place kind e. absurd (cc e);
               firm = λ rest. absurd (cc rest);
-              built = is.built;
             }
 
         -- a record has a fault
@@ -586,7 +570,7 @@ module _ {R A : Type 0} (rack : racks.Ghosts R) (area : areas.Ghosts A) (choices
               runs = is.runs;
               may = subst (λ p. MayEndAt p (Record which place kind) (Some line)) (sym outside) tt;
               stopped = λ e. absurd (is.goes_on e);
-              breaks = record { command = at.command; line = asked; none = refl; built = at.built; breaks = at.broken.breaks };
+              breaks = record { command = at.command; line = asked; none = refl; breaks = at.broken.breaks };
               ends = taken;
               shows = refl;
               prints = is.printed;
@@ -594,7 +578,6 @@ module _ {R A : Type 0} (rack : racks.Ghosts R) (area : areas.Ghosts A) (choices
               since = λ e. absurd (cc e);
               bad = λ n p k e. shut n p k e;
               firm = λ rest. absurd (cc rest);
-              built = is.built;
             }
           where
             asked : line_behind is.lines line ≡ Ok at.command

@@ -31,7 +31,7 @@ use Rattle.draid_pool.specs.Shelves.{OnShelf}
 use Rattle.draid_pool.specs.declared.pool.Pool.{Pool}
 use Rattle.draid_run.specs.Crashes.{LeavesFirm}
 use Rattle.draid_run.specs.Desks.{IsDesk, asked_in}
-use Rattle.draid_run.specs.Script.{IsBuilt, MayEndAt}
+use Rattle.draid_run.specs.Script.{MayEndAt}
 use Rattle.draid_clashes.specs.Lanes.{lanes_in}
 use Rattle.draid_run.specs.Sections.{AreLanes, IsOfLane, RanIs, SectionIs, place_in, place_next, place_of, saids_of}
 use Rattle.draid_run.specs.Serve.{LineIs, Placed, Printed, done_of, opened_by}
@@ -102,7 +102,6 @@ module _ {R A : Type 0} (rack : racks.Ghosts R) (area : areas.Ghosts A) (choices
     saids = [];
     placed = record { new = x; desk = desk; turns = (subst (λ l. LaneTurns choices l x lanes [] x to) (sym read) turns, refl); stopped = λ e. absurd (more e) };
     firm = tt;
-    built = subst (λ l. IsBuilt (asked_inside l)) (sym read) (λ unbuilt. unbuilt);
     prints = appends_none held;
   }
 
@@ -117,14 +116,11 @@ module _ {R A : Type 0} (rack : racks.Ghosts R) (area : areas.Ghosts A) (choices
       stopped = it.stopped;
     }
 
-    built_end : IsBuilt (line_at (Inside lanes) text)
-    built_end = subst (λ l. IsBuilt (asked_inside l)) (sym end) (λ unbuilt. unbuilt)
-
     -- one reply
     pub end_alone : (reply : Reply) (result : Result Unit Status) → SectionIs rack area choices lanes entry now x pool' (Err reply) → PrintIs (text_of reply) held held' result
         → LineIs rack area choices past past (Inside lanes) number text entry now pool x now pool' held held' Outside result
     end_alone reply result it prints =
-        printed_alone rack area choices past past (Inside lanes) number text entry now pool x now pool' reply held held' (placed_end (Err reply) it) tt built_end result prints
+        printed_alone rack area choices past past (Inside lanes) number text entry now pool x now pool' reply held held' (placed_end (Err reply) it) tt result prints
 
     may_sink : (b : Bool) → MayEndAt (if b then Ended else Outside) SinkFault None
     may_sink true = tt
@@ -141,14 +137,12 @@ module _ {R A : Type 0} (rack : racks.Ghosts R) (area : areas.Ghosts A) (choices
       saids = saids_of (Ok ran);
       placed = subst (λ b. Placed rack area choices past past (Inside lanes) text entry x (saids_of (Ok ran)) now pool' (if b then Ended else Outside)) prints.1 (placed_end (Ok ran) it);
       firm = tt;
-      built = built_end;
       prints = prints.0;
     }
     end_ran ran (Err ShelfFault) it prints = inr (record {
       saids = saids_of (Ok ran);
       placed = subst (λ b. Placed rack area choices past past (Inside lanes) text entry x (saids_of (Ok ran)) now pool' (if b then Ended else Outside)) prints.1 (placed_end (Ok ran) it);
       firm = tt;
-      built = built_end;
       prints = prints.0;
     })
     end_ran ran (Err SinkFault) it (part, said, rest, mid, are, whole, some) = record {
@@ -160,7 +154,6 @@ module _ {R A : Type 0} (rack : racks.Ghosts R) (area : areas.Ghosts A) (choices
       ends = may_sink (list_any (λ (lane : LaneReplies). lane.stopped) ran.items);
       placed = subst (λ saids. Placed rack area choices past past (Inside lanes) text entry x saids now pool' (place_of (Ok ran))) are (placed_end (Ok ran) it);
       firm = tt;
-      built = built_end;
       whole = whole;
       prints = some;
     }
@@ -172,7 +165,6 @@ module _ {R A : Type 0} (rack : racks.Ghosts R) (area : areas.Ghosts A) (choices
       ends = may_want (list_any (λ (lane : LaneReplies). lane.stopped) ran.items);
       placed = subst (λ saids. Placed rack area choices past past (Inside lanes) text entry x saids now pool' (place_of (Ok ran))) are (placed_end (Ok ran) it);
       firm = tt;
-      built = built_end;
       prints = whole;
     })
     end_ran ran (Err Done) it prints = absurd prints
@@ -202,7 +194,6 @@ module _ {R A : Type 0} (rack : racks.Ghosts R) (area : areas.Ghosts A) (choices
     saids = [];
     placed = record { new = x; desk = desk; turns = subst (λ l. OutsideTurns choices (MayFind rack area entry) l (sits x past) [] (sits x past) (place_in next)) (sym asked) (refl, refl, opened); stopped = λ e. absurd (goes_on next e) };
     firm = subst (λ l. LeavesFirm l [] now pool now pool) (sym asked) tt;
-    built = subst IsBuilt (sym asked) (λ unbuilt. unbuilt);
     prints = appends_none held;
   }
   line_opened (Err status) opened refused desk = subst (λ s. LineIs rack area choices past past Outside number text entry now pool x now pool held held Outside (Err s)) (sym refused) (inl (refl, refl, refl))
@@ -305,19 +296,19 @@ module _ (room : List Room → Option ℕ → Type 0) (spare : ℕ → ℕ → L
     placed_with saids to p = record { new = p.new; desk = p.desk; turns = (inside_with (lane_of (length lanes) text) x p.new lanes saids to plain p.turns.0, p.turns.1); stopped = p.stopped }
 
     printed_with : (to : Place) → Printed rack area (choices_by room) past after (Inside lanes) text entry before pool x now pool' held held' to → Printed rack area (choices_with room spare) past after (Inside lanes) text entry before pool x now pool' held held' to
-    printed_with to p = record { saids = p.saids; placed = placed_with p.saids to p.placed; firm = p.firm; built = p.built; prints = p.prints }
+    printed_with to p = record { saids = p.saids; placed = placed_with p.saids to p.placed; firm = p.firm; prints = p.prints }
 
     pub line_with : (to : Place) (result : Result Unit Status) → LineIs rack area (choices_by room) past after (Inside lanes) number text entry before pool x now pool' held held' to result
         → LineIs rack area (choices_with room spare) past after (Inside lanes) number text entry before pool x now pool' held held' to result
     line_with to (Ok done) it = printed_with to it
-    line_with to (Err SinkFault) it = record { part = it.part; said = it.said; rest = it.rest; mid = it.mid; to = it.to; ends = it.ends; placed = placed_with (it.part ++ it.said ∷ it.rest) it.to it.placed; firm = it.firm; built = it.built; whole = it.whole; prints = it.prints }
+    line_with to (Err SinkFault) it = record { part = it.part; said = it.said; rest = it.rest; mid = it.mid; to = it.to; ends = it.ends; placed = placed_with (it.part ++ it.said ∷ it.rest) it.to it.placed; firm = it.firm; whole = it.whole; prints = it.prints }
     line_with to (Err ShelfFault) (inl it) = inl it
     line_with to (Err ShelfFault) (inr it) = inr (printed_with Ended it)
     line_with to (Err (Record which place kind)) it = it
     line_with to (Err (status_is.Line line why at)) it = it
     line_with to (Err NoMemory) (inl it) = inl it
     line_with to (Err NoMemory) (inr it) =
-        inr (record { part = it.part; said = it.said; rest = it.rest; to = it.to; ends = it.ends; placed = placed_with (it.part ++ it.said ∷ it.rest) it.to it.placed; firm = it.firm; built = it.built; prints = it.prints })
+        inr (record { part = it.part; said = it.said; rest = it.rest; to = it.to; ends = it.ends; placed = placed_with (it.part ++ it.said ∷ it.rest) it.to it.placed; firm = it.firm; prints = it.prints })
     line_with to (Err Done) it = it
     line_with to (Err Usage) it = it
     line_with to (Err SourceFault) it = it

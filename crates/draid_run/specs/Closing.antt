@@ -88,7 +88,6 @@ pub record ExportDid {R A : Type 0} (rack : racks.Ghosts R) (area : areas.Ghosts
 abbrev pub ExportIs : {R A : Type 0} → racks.Ghosts R → areas.Ghosts A → OnShelf → Desk → OnShelf → Option (Pool R A) → Result Reply Stop → Type 0
 ExportIs rack area entry old now pool (Ok reply) = ExportDid rack area entry old (Some reply) now pool
 ExportIs rack area entry old now pool (Err stop.Shelf) = ExportDid rack area entry old None now pool
-ExportIs rack area entry old now pool (Err stop.Unbuilt) = ⊥
 ExportIs rack area entry old now pool (Err (stop.Record which place kind)) = ⊥
 
 -- a crash gives the pool back as it is

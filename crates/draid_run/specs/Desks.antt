@@ -85,8 +85,7 @@ PoolBroke rack area command (Foreign known) (Some pool) =
     × ((behind : Known) × MayHaveBroken command known behind × KnowsPointers pool behind)
 PoolBroke rack area command desk pool = ⊥
 
--- The name of a command that is carried out on the pool that is open alone, and leaves it open. One that isn't built isn't carried out, and the agent's two have to do with the
--- journal as well.
+-- The name of a command that is carried out on the pool that is open alone, and leaves it open. The agent's two have to do with the journal as well.
 abbrev pub asked_in : Command → Option CommandName
 asked_in Silent = None
 asked_in (CreatePool text children keys) = None

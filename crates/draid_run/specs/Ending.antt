@@ -6,20 +6,19 @@ use Rattle.draid_script.specs.Line.{Command}
 use Rattle.draid_script.specs.declared.fault.LineFault.{LineFault}
 use Rattle.draid_session.specs.Places.{IsOutside, Outside, line_behind, place_after}
 use Rattle.draid_session.specs.Session.{Desk, Untouched, Made, Shut, Unknown}
-use Rattle.draid_run.specs.Script.{IsUnbuilt}
 use Rattle.draid_exits.specs.declared.status.Status.{Status}
 use Rattle.draid_exits.specs.declared.status.Status.TheVariants.{Done, Record, SourceFault, SinkFault, NoMemory, ShelfFault}
 
--- a line is in the grammar, and its command is built
-abbrev pub IsBuilt : Result Command LineFault → Type 0
-IsBuilt (Ok command) = IsUnbuilt command → ⊥
-IsBuilt (Err fault) = ⊥
+-- a line is in the grammar
+abbrev pub IsTaken : Result Command LineFault → Type 0
+IsTaken (Ok command) = ⊤
+IsTaken (Err fault) = ⊥
 
 -- All lines of an input are so, none is too long, and there aren't too many. The last one isn't inside a section.
 pub record CanRun (input : List ℕ) : Type 0 where
   pub few : length (lines_of input) ≤ most_lines
   pub short : All (λ line. length line ≤ LONGEST_LINE) (lines_of input)
-  pub built : (front : List (List ℕ)) (line : List ℕ) (rest : List (List ℕ)) → lines_of input ≡ front ++ (line ∷ rest) → IsBuilt (line_behind front line)
+  pub taken : (front : List (List ℕ)) (line : List ℕ) (rest : List (List ℕ)) → lines_of input ≡ front ++ (line ∷ rest) → IsTaken (line_behind front line)
   pub outside : IsOutside (place_after Outside (lines_of input))
 
 -- no device failed, and memory wasn't wanting

@@ -33,7 +33,6 @@ pub record ImportDid {R A : Type 0} (rack : racks.Ghosts R) (area : areas.Ghosts
 -- or the shelf failed, or a record has a fault
 abbrev pub ImportIs : {R A : Type 0} → racks.Ghosts R → areas.Ghosts A → OnShelf → OnShelf → Desk → OnShelf → Option (Pool R A) → Result Reply Stop → Type 0
 ImportIs rack area entry before old now pool (Ok reply) = ImportDid rack area entry old reply now pool
-ImportIs rack area entry before old now pool (Err stop.Unbuilt) = ⊥
 ImportIs rack area entry before old now pool (Err stop.Shelf) = Broken rack area ShelfFails ImportPool entry before old now pool
 ImportIs rack area entry before old now pool (Err (stop.Record which place kind)) =
     Broken rack area RecordFails ImportPool entry before old now pool × HoldsFault rack area before which place kind

@@ -1,4 +1,5 @@
 pub mod Books
+pub mod BooksMarked
 pub mod Closing
 pub mod Crashes
 pub mod Desks

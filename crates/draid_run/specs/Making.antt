@@ -30,6 +30,5 @@ pub record CreateDid {R A : Type 0} (rack : racks.Ghosts R) (area : areas.Ghosts
 -- or the shelf failed
 abbrev pub CreateIs : {R A : Type 0} → racks.Ghosts R → areas.Ghosts A → List ℕ → ℕ → PoolKeys → OnShelf → OnShelf → Desk → OnShelf → Option (Pool R A) → Result Reply Stop → Type 0
 CreateIs rack area text children keys entry before old now pool (Ok reply) = CreateDid rack area text children keys entry old reply now pool
-CreateIs rack area text children keys entry before old now pool (Err stop.Unbuilt) = ⊥
 CreateIs rack area text children keys entry before old now pool (Err (stop.Record which place kind)) = ⊥
 CreateIs rack area text children keys entry before old now pool (Err stop.Shelf) = Broken rack area ShelfFails (CreatePool text children keys) entry before old now pool

@@ -165,7 +165,6 @@ module _ {R A : Type 0} (rack : racks.Ghosts R) (area : areas.Ghosts A) where
     abbrev pub AgentIs : Desk → Option (Pool R A) → Result Reply Stop → Type 0
     AgentIs old pool (Ok reply) = AgentDid old reply pool
     AgentIs old pool (Err stop.Shelf) = PoolBroke rack area (RunAgent least) old pool
-    AgentIs old pool (Err stop.Unbuilt) = ⊥
     AgentIs old pool (Err (stop.Record metaslab place kind)) = ⊥
 
   -- so a line that asks for the journal

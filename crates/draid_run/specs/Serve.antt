@@ -25,13 +25,12 @@ use Rattle.draid_pool.specs.declared.pool.Pool.{Pool}
 use Rattle.draid_exits.specs.declared.status.RecordName.{RecordName}
 use Rattle.draid_run.specs.Crashes.{IsFirmShut, LeavesFirm, LeavesFirmAt, crash_came_last}
 use Rattle.draid_run.specs.Desks.{Broken, IsDesk, Noted, PoolBroke, PoolDid, Turned, asked_in}
-use Rattle.draid_run.specs.Script.{AreBuilt, IsBuilt, all_replies, all_said, BreaksOff, Ends, EndsSection, FailsShut, FaultyShut, GetsReplies, IsUnbuilt, LineFaultIs, MayEndAt, Shows}
+use Rattle.draid_run.specs.Script.{all_replies, all_said, BreaksOff, Ends, EndsSection, FailsShut, FaultyShut, GetsReplies, LineFaultIs, MayEndAt, Shows}
 use Rattle.draid_print.specs.Printing.{said_text, texts_of}
 use Rattle.draid_pool.specs.Shelves.{OnShelf}
 use Rattle.draid_run.specs.Shelves.{AreaRose, HasFault, HoldsFault, IsClosed, MakesLeavesAt, MayFind, PoolFails, RackFault}
 use Rattle.draid_run.specs.declared.answer.Stop.{Stop}
 use Rattle.draid_run.specs.declared.answer.Stop.TheVariants as stop
-use Rattle.draid_exits.specs.declared.status.LineRefusal.TheVariants as refusal
 use Rattle.draid_exits.specs.declared.status.Status.{Status}
 use Rattle.draid_exits.specs.declared.status.Status.TheVariants.{Done, Line, SourceFault, SinkFault, NoMemory, TooLong, ShelfFault, Record}
 
@@ -51,7 +50,6 @@ TextIs lines lines' left left' (Err status) = ⊥
 pub record BrokenLine {R A : Type 0} (rack : racks.Ghosts R) (area : areas.Ghosts A) (why : Cause) (text : List ℕ) (entry before : OnShelf) (old : Desk) (now : OnShelf) (pool : Option (Pool R A)) : Type 0 where
   pub command : Command
   pub line : line_at Outside text ≡ Ok command
-  pub built : IsUnbuilt command → ⊥
   pub broken : Broken rack area why command entry before old now pool
 
 -- a command that has a reply was answered by it
@@ -77,12 +75,12 @@ opened_by command = None
 -- the status of a run that ends at the line of this number, which can't be read
 abbrev pub unread_at : ℕ → ParseFault → Status
 unread_at number parse_fault.NoMemory = NoMemory
-unread_at number (parse_fault.Line fault) = Line number (refusal.Fault fault.kind) fault.at
+unread_at number (parse_fault.Line fault) = Line number fault.kind fault.at
 
 -- the status of a run whose input ends at the line of this number, by where it stands
 abbrev pub end_at : ℕ → Place → Status
 end_at number Outside = Done
-end_at number (Inside lanes) = Line number (refusal.Fault line_fault.Lane) 0
+end_at number (Inside lanes) = Line number line_fault.Lane 0
 end_at number Ended = ShelfFault
 
 -- whether something was done, or the run ended
@@ -92,7 +90,6 @@ done_of (Err status) = Err status
 
 -- the status of a run that ends at the line of this number
 abbrev pub status_of : ℕ → Stop → Status
-status_of number stop.Unbuilt = Line number refusal.Unbuilt 0
 status_of number stop.Shelf = ShelfFault
 status_of number (stop.Record which place kind) = Record which place kind
 
@@ -103,10 +100,9 @@ LaneStopped area pool (Foreign known) (Foreign later) = PoolFails area pool
 LaneStopped area pool old new = ⊥
 
 module _ {R A : Type 0} (rack : racks.Ghosts R) (area : areas.Ghosts A) (choices : Choices) where
-  -- the reply of the pool that is open, or that none is; that a device of it failed; or that the command asks for none
+  -- the reply of the pool that is open, or that none is; or that a device of it failed
   abbrev pub AskIs : Command → Option (Pool R A) → Desk → Option (Pool R A) → Result Reply Stop → Type 0
   AskIs command pool old pool' (Ok reply) = (called : CommandName) × (asked_in command ≡ Some called) × PoolDid rack area choices command called old reply pool'
-  AskIs command pool old pool' (Err stop.Unbuilt) = (asked_in command ≡ None) × (pool' ≡ pool)
   AskIs command pool old pool' (Err stop.Shelf) = (called : CommandName) × (asked_in command ≡ Some called) × PoolBroke rack area command old pool'
   AskIs command pool old pool' (Err (stop.Record which place kind)) = ⊥
 
@@ -116,11 +112,10 @@ module _ {R A : Type 0} (rack : racks.Ghosts R) (area : areas.Ghosts A) (choices
     abbrev pub AnswerIs : Command → OnShelf → OnShelf → Option (Pool R A) → Desk → OnShelf → Option (Pool R A) → Result (Option Reply) Stop → Type 0
     AnswerIs command entry before pool old now pool' (Ok reply) =
         (turned : Turned rack area choices (Ok command) entry old (said_of reply) now pool') × Noted rack area choices (Ok command) entry old (said_of reply) now pool' turned past after
-        × LeavesFirm (Ok command) (said_of reply) before pool now pool' × IsBuilt (Ok command)
-    AnswerIs command entry before pool old now pool' (Err stop.Unbuilt) = IsUnbuilt command × (now ≡ before) × (pool' ≡ pool)
-    AnswerIs command entry before pool old now pool' (Err stop.Shelf) = Broken rack area ShelfFails command entry before old now pool' × IsBuilt (Ok command)
+        × LeavesFirm (Ok command) (said_of reply) before pool now pool'
+    AnswerIs command entry before pool old now pool' (Err stop.Shelf) = Broken rack area ShelfFails command entry before old now pool'
     AnswerIs command entry before pool old now pool' (Err (stop.Record which place kind)) =
-        Broken rack area RecordFails command entry before old now pool' × HoldsFault rack area before which place kind × IsBuilt (Ok command)
+        Broken rack area RecordFails command entry before old now pool' × HoldsFault rack area before which place kind
 
     -- A line was done where the run stood, and this was said to it. So the run came to another desk, and stands at another place.
     pub record Placed (from : Place) (text : List ℕ) (entry : OnShelf) (old : Desk) (saids : List Said) (now : OnShelf) (pool' : Option (Pool R A)) (to : Place) : Type 0 where
@@ -134,7 +129,6 @@ module _ {R A : Type 0} (rack : racks.Ghosts R) (area : areas.Ghosts A) (choices
       pub saids : List Said
       pub placed : Placed from text entry old saids now pool' to
       pub firm : LeavesFirmAt from text saids before pool now pool'
-      pub built : IsBuilt (line_at from text)
       pub prints : Appends held held' (texts_of saids)
 
     -- A line was done, and the sink failed at one of the replies to it.
@@ -147,7 +141,6 @@ module _ {R A : Type 0} (rack : racks.Ghosts R) (area : areas.Ghosts A) (choices
       pub ends : MayEndAt to SinkFault None
       pub placed : Placed from text entry old (part ++ said ∷ rest) now pool' to
       pub firm : LeavesFirmAt from text (part ++ said ∷ rest) before pool now pool'
-      pub built : IsBuilt (line_at from text)
       pub whole : Appends held mid (texts_of part)
       pub prints : AppendsFront mid held' (said_text said)
 
@@ -160,7 +153,6 @@ module _ {R A : Type 0} (rack : racks.Ghosts R) (area : areas.Ghosts A) (choices
       pub ends : MayEndAt to NoMemory None
       pub placed : Placed from text entry old (part ++ said ∷ rest) now pool' to
       pub firm : LeavesFirmAt from text (part ++ said ∷ rest) before pool now pool'
-      pub built : IsBuilt (line_at from text)
       pub prints : Appends held held' (texts_of part)
 
     -- What became of a line, where the run stood. Where it goes on, it stands there.
@@ -171,8 +163,8 @@ module _ {R A : Type 0} (rack : racks.Ghosts R) (area : areas.Ghosts A) (choices
         ((from ≡ Outside) × (held' ≡ held) × BrokenLine rack area ShelfFails text entry before old now pool') ⊎ Printed from text entry before pool old now pool' held held' Ended
     LineIs from number text entry before pool old now pool' held held' to (Err (Record which place kind)) =
         (from ≡ Outside) × (held' ≡ held) × BrokenLine rack area RecordFails text entry before old now pool' × HoldsFault rack area before which place kind
-    LineIs from number text entry before pool old now pool' held held' to (Err (Line line why at)) =
-        LineFaultIs (line_at from text) why at × (now ≡ before) × (pool' ≡ pool) × (held' ≡ held) × (line ≡ number)
+    LineIs from number text entry before pool old now pool' held held' to (Err (Line line kind at)) =
+        LineFaultIs (line_at from text) kind at × (now ≡ before) × (pool' ≡ pool) × (held' ≡ held) × (line ≡ number)
     LineIs from number text entry before pool old now pool' held held' to (Err NoMemory) =
         ((held' ≡ held) × (now ≡ before) × (pool' ≡ pool)) ⊎ Untold from text entry before pool old now pool' held held'
     LineIs from number text entry before pool old now pool' held held' to (Err status) = ⊥
@@ -191,7 +183,6 @@ module _ {R A : Type 0} (rack : racks.Ghosts R) (area : areas.Ghosts A) (choices
     pub printed : Appends start held (texts_of (all_said replies))
     pub unanswered : lines ≡ [] → now ≡ entry
     pub firm : crash_came_last Outside false lines replies ≡ true → IsFirmShut now pool
-    pub built : AreBuilt Outside lines
 
   -- The lines were served until the run ended.
   pub record Served (first : Desk) (ended : Status) (input start held : Option (List ℕ)) (entry now : OnShelf) (pool : Option (Pool R A)) : Type 0 where
@@ -216,4 +207,3 @@ module _ {R A : Type 0} (rack : racks.Ghosts R) (area : areas.Ghosts A) (choices
     pub since : ended ≡ ShelfFault → IsClosed mid → IsClosed last × FailsShut area broken lines mid entry now
     pub bad : (which : RecordName) (place : ℕ) (kind : RecordFaultKind) → ended ≡ Record which place kind → FaultyShut rack area broken lines mid entry which place kind
     pub firm : broken ≡ None → crash_came_last Outside false lines replies ≡ true → IsFirmShut now pool
-    pub built : AreBuilt Outside lines

@@ -1,5 +1,5 @@
 //! What the commands of a script reply, whether a pool is open or not.
-ghost use Rattle.std.specs.Prelude.{◌≡◌, ◌≤◌, None};
+ghost use Rattle.std.specs.Prelude.{◌≡◌, ◌≤◌, None, Some};
 ghost use Rattle.draid_script.specs.Line.{IsInRange, command_in};
 ghost use Rattle.std.specs.Fn.{FnReturnsAt};
 ghost use Rattle.draid_agent.specs.Policy.{IsPolicy, PolicyReturns};
@@ -30,8 +30,6 @@ use std::thread::Threads;
 /// Why a command has no reply, and the run ends.
 #[derive(Clone, Copy)]
 pub(crate) enum Stop {
-    /// The command is beyond what is built.
-    Unbuilt,
     /// A call of the shelf, or on an area of the pool, failed.
     Shelf,
     /// What has the first fault begins at byte `at` of this record.
@@ -49,34 +47,34 @@ pub(crate) fn no_pool(command: CommandName) -> Reply
     Reply::NoPool { command }
 }
 
-/// The name of what a line asks of the pool that is open, where that leaves it open. The agent's lines, which ask something of
-/// the journal too, have none.
-fn asked(line: &Line) -> Option<CommandName>
-    ensures { result ≡ asked_in (command_in line.now) }
+/// The name of what a line asks of the open pool alone, which stays open. The agent's lines ask something of the journal too.
+fn asked(line: &Line) -> CommandName
+    requires { asked_in (command_in line.now) ≡ None → ⊥ }
+    ensures { asked_in (command_in line.now) ≡ Some result }
 {
     match line {
-        Line::Write { .. } => Some(CommandName::Write),
-        Line::Fill { .. } => Some(CommandName::Fill),
-        Line::Free { .. } => Some(CommandName::Free),
-        Line::Read { .. } => Some(CommandName::Read),
-        Line::Sum { .. } => Some(CommandName::Sum),
-        Line::Offline { .. } => Some(CommandName::Offline),
-        Line::Online { .. } => Some(CommandName::Online),
-        Line::Rebuild { .. } => Some(CommandName::Rebuild),
-        Line::Scrub { .. } => Some(CommandName::Scrub),
-        Line::Rebalance { .. } => Some(CommandName::Rebalance),
-        Line::Cancel => Some(CommandName::Cancel),
-        Line::Damage { .. } => Some(CommandName::Damage),
-        Line::Spare { .. } => Some(CommandName::Spare),
-        Line::Replace { .. } => Some(CommandName::Replace),
-        Line::Status { .. } => Some(CommandName::Status),
-        Line::Detach { .. } => Some(CommandName::Detach),
-        Line::Upgrade => Some(CommandName::Upgrade),
-        Line::Checkpoint => Some(CommandName::Checkpoint),
-        Line::Rewind => Some(CommandName::Rewind),
-        Line::Discard => Some(CommandName::Discard),
-        Line::Sync => Some(CommandName::Sync),
-        _ => None,
+        Line::Write { .. } => CommandName::Write,
+        Line::Fill { .. } => CommandName::Fill,
+        Line::Free { .. } => CommandName::Free,
+        Line::Read { .. } => CommandName::Read,
+        Line::Sum { .. } => CommandName::Sum,
+        Line::Offline { .. } => CommandName::Offline,
+        Line::Online { .. } => CommandName::Online,
+        Line::Rebuild { .. } => CommandName::Rebuild,
+        Line::Scrub { .. } => CommandName::Scrub,
+        Line::Rebalance { .. } => CommandName::Rebalance,
+        Line::Cancel => CommandName::Cancel,
+        Line::Damage { .. } => CommandName::Damage,
+        Line::Spare { .. } => CommandName::Spare,
+        Line::Replace { .. } => CommandName::Replace,
+        Line::Status { .. } => CommandName::Status,
+        Line::Detach { .. } => CommandName::Detach,
+        Line::Upgrade => CommandName::Upgrade,
+        Line::Checkpoint => CommandName::Checkpoint,
+        Line::Rewind => CommandName::Rewind,
+        Line::Discard => CommandName::Discard,
+        Line::Sync => CommandName::Sync,
+        _ => unreachable!(),
     }
 }
 
@@ -90,13 +88,12 @@ fn ask<R: Rack, A: Area, F: Fn(&[Room]) -> Option<u32>>(
 ) -> Result<Reply, Stop>
     requires chooser { IsChooser F.Fn chooser.now }
     requires range { IsInRange (command_in line.now) }
+    requires asks { asked_in (command_in line.now) ≡ None → ⊥ }
     requires desk { (x : Desk) × IsPool R.Rack A.Area pool.old x }
     ensures did { (x : Desk) → IsPool R.Rack A.Area pool.old x
         → AskIs R.Rack A.Area (choices_by (FnReturnsAt F.Fn chooser.now)) (command_in line.now) pool.old x pool.new result }
 {
-    let Some(command) = asked(line) else {
-        return Err(Stop::Unbuilt);
-    };
+    let command = asked(line);
     match pool {
         Some(pool) => match replies::reply(rt, alloc, pool, chooser, line) {
             Ok(reply) => Ok(reply),

@@ -20,8 +20,8 @@ mod top;
 mod turns;
 mod workloads;
 
-pub use books::runs_keep_the_book;
-pub use draid_exits::{LineRefusal, RecordName, Status};
+pub use books::{runs_keep_the_book, runs_keep_the_marked_book};
+pub use draid_exits::{RecordName, Status};
 pub use draid_print::LaneReplies;
 pub use failures::runs_without_failures_end_well;
 pub use kept::known_objects_are_read;

@@ -24,7 +24,7 @@ use crate::sections::Sections;
 use draid_agent::{Journal, Policy};
 use draid_area::Area;
 use draid_choose::Chooser;
-use draid_exits::{LineRefusal, Status};
+use draid_exits::Status;
 use draid_lines::{Lines, ReadFault, Sink, Source};
 use draid_names::{NoMemory, Room};
 use draid_pool::Pool;
@@ -43,11 +43,6 @@ fn stopped(number: u64, stop: Stop) -> Status
     ensures { result ≡ status_of number stop }
 {
     match stop {
-        Stop::Unbuilt => Status::Line {
-            line: number,
-            why: LineRefusal::Unbuilt,
-            at: 0,
-        },
         Stop::Shelf => Status::ShelfFault,
         Stop::Record { name, at, kind } => Status::Record { name, at, kind },
     }
@@ -60,7 +55,7 @@ fn unread(number: u64, fault: ParseFault) -> Status
     match fault {
         ParseFault::Line(LineFault { kind, at }) => Status::Line {
             line: number,
-            why: LineRefusal::Fault(kind),
+            kind,
             at,
         },
         ParseFault::NoMemory => Status::NoMemory,
@@ -280,7 +275,7 @@ fn ended(number: u64, section: &Option<Vec<Vec<Line>>>) -> Status
         None => Status::Done,
         Some(_) => Status::Line {
             line: number,
-            why: LineRefusal::Fault(LineFaultKind::Lane),
+            kind: LineFaultKind::Lane,
             at: 0,
         },
     }

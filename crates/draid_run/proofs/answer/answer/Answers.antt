@@ -9,7 +9,7 @@ use Rattle.draid_pool.specs.Shelves.{on_shelf}
 use Rattle.draid_run.specs.Serve.{AnswerIs}
 use Rattle.draid_run.proofs.Agents.{answer_agent, answer_journal}
 use Rattle.draid_run.proofs.Deciding.{asked_with}
-use Rattle.draid_run.proofs.Asking.{answer_ask, answer_create, is_unbuilt, turned_silent}
+use Rattle.draid_run.proofs.Asking.{answer_ask, answer_create, asks_pool, turned_silent}
 use Rattle.draid_run.proofs.Exits.{same_later}
 use Rattle.draid_run.proofs.Closings.{answer_export, by_crash}
 use Rattle.draid_run.proofs.Crashing.{crash_firm}
@@ -32,7 +32,6 @@ returns-in-Crash g c = record {
         by_crash g.H.R.Rack g.H.A.Area (choices_with (FnReturnsAt g.F.Fn c.args.chooser.now) (PolicyReturns g.P.Fn c.args.policy.now)) entry (on_shelf g.H.Shelf c.args.shelf.now) (on_shelf g.H.Shelf c.crash.new.shelf) x c.crash.result c.crash.new.pool did,
         ([], refl, sym (append-nil c.args.journal.now.entries)),
         crash_firm (on_shelf g.H.Shelf c.crash.new.shelf) c.crash.new.pool c.crash.result did.firm,
-        λ none. none,
       ));
   later = c.crash.ensures.later;
 }
@@ -49,7 +48,6 @@ pub returns-in_default : goal.returns-in_default
 returns-in_default g c = record {
   answer = λ entry x desk.
       answer_ask g.H.R.Rack g.H.A.Area (choices_with (FnReturnsAt g.F.Fn c.args.chooser.now) (PolicyReturns g.P.Fn c.args.policy.now)) c.args.journal.now.entries entry (on_shelf g.H.Shelf c.args.shelf.now) c.args.pool.now x desk (command_in c.args.line.now)
-      (is_unbuilt c.args.line.now c.in_default.not-Nothing c.in_default.not-Create c.in_default.not-Import c.in_default.not-Export c.in_default.not-Crash c.in_default.not-Agent c.in_default.not-AgentLog c.requires.alone)
       c.ask.new.pool c.ask.result c.said-in_default.result c.said-in_default.ensures
       (asked_with g.H.R.Rack g.H.A.Area (FnReturnsAt g.F.Fn c.args.chooser.now) (PolicyReturns g.P.Fn c.args.policy.now) (command_in c.args.line.now) c.args.pool.now x c.ask.new.pool c.ask.result (c.ask.ensures.did x desk.stands));
   later = same_later (g.H.Shelf.faults c.args.shelf.now);
@@ -93,6 +91,10 @@ ask-requires-clause-chooser g c κs within = c.requires.chooser
 
 pub ask-requires-clause-range : goal.ask-requires-clause-range
 ask-requires-clause-range g c κs within = c.requires.range
+
+pub ask-requires-clause-asks : goal.ask-requires-clause-asks
+ask-requires-clause-asks g c κs within =
+    asks_pool c.args.line.now c.in_default.not-Nothing c.in_default.not-Create c.in_default.not-Import c.in_default.not-Export c.in_default.not-Crash c.in_default.not-Agent c.in_default.not-AgentLog c.requires.alone
 
 pub ask-requires-clause-desk : goal.ask-requires-clause-desk
 ask-requires-clause-desk g c κs within = c.requires.desk

@@ -1,34 +1,30 @@
-use Rattle.std.proofs.Common.{◌∙◌, refl, sym}
+use Rattle.std.proofs.Common.{refl}
 use Rattle.std.specs.Fn.{FnReturnsAt}
 use Rattle.draid_session.specs.Choices.{choices_by}
 use Rattle.draid_script.specs.Line.{command_in}
-use Rattle.draid_run.proofs.Asking.{some_asked}
 use Rattle.draid_run.proofs.Steps.{broke_open, did_open, did_shut, is_whole}
 use Rattle.draid_run.proofs.answer.ask.Goals as goal
-
-pub returns-in_default : goal.returns-in_default
-returns-in_default g c = record { did = λ x stands. (sym c.asked.ensures ∙ c.in_default.is, refl) }
 
 pub returns-in-Ok : goal.returns-in-Ok
 returns-in-Ok g c = record {
   did = λ x stands. (
-    c.in-Some.command,
-    sym c.asked.ensures ∙ c.in-Some.is,
-    did_open g.R.Rack g.A.Area (choices_by (FnReturnsAt g.F.Fn c.args.chooser.now)) (command_in c.args.line.now) c.in-Some.command c.in-Ok.reply c.args.pool.now c.in-Some-pool.pool c.reply.new.pool c.in-Some-pool.is c.in-Ok.ensures.whole c.in-Ok.ensures.fits c.in-Ok.ensures.knows c.in-Ok.ensures.arms c.in-Ok.ensures.passes c.in-Ok.ensures.step x stands,
+    c.asked-command.result,
+    c.asked-command.ensures,
+    did_open g.R.Rack g.A.Area (choices_by (FnReturnsAt g.F.Fn c.args.chooser.now)) (command_in c.args.line.now) c.asked-command.result c.in-Ok.reply c.args.pool.now c.in-Some.pool c.reply.new.pool c.in-Some.is c.in-Ok.ensures.whole c.in-Ok.ensures.fits c.in-Ok.ensures.knows c.in-Ok.ensures.arms c.in-Ok.ensures.passes c.in-Ok.ensures.step x stands,
   );
 }
 
 pub returns-in-Err : goal.returns-in-Err
 returns-in-Err g c = record {
-  did = λ x stands. (c.in-Some.command, sym c.asked.ensures ∙ c.in-Some.is, broke_open g.R.Rack g.A.Area (command_in c.args.line.now) c.args.pool.now c.in-Some-pool.pool c.reply.new.pool c.in-Some-pool.is c.in-Err.ensures.whole (c.in-Err.ensures.breaks refl) c.in-Err.ensures.step x stands);
+  did = λ x stands. (c.asked-command.result, c.asked-command.ensures, broke_open g.R.Rack g.A.Area (command_in c.args.line.now) c.args.pool.now c.in-Some.pool c.reply.new.pool c.in-Some.is c.in-Err.ensures.whole (c.in-Err.ensures.breaks refl) c.in-Err.ensures.step x stands);
 }
 
 pub returns-in-None : goal.returns-in-None
 returns-in-None g c = record {
   did = λ x stands. (
-    c.in-Some.command,
-    sym c.asked.ensures ∙ c.in-Some.is,
-    did_shut g.R.Rack g.A.Area (choices_by (FnReturnsAt g.F.Fn c.args.chooser.now)) (command_in c.args.line.now) c.in-Some.command c.no_pool.result c.args.pool.now c.args.pool.now c.in-None.is c.in-None.is c.no_pool.ensures x stands,
+    c.asked-command.result,
+    c.asked-command.ensures,
+    did_shut g.R.Rack g.A.Area (choices_by (FnReturnsAt g.F.Fn c.args.chooser.now)) (command_in c.args.line.now) c.asked-command.result c.no_pool.result c.args.pool.now c.args.pool.now c.in-None.is c.in-None.is c.no_pool.ensures x stands,
   );
 }
 
@@ -39,7 +35,7 @@ pub reply-requires-clause-range : goal.reply-requires-clause-range
 reply-requires-clause-range g c κs within = c.requires.range
 
 pub reply-requires-clause-asks : goal.reply-requires-clause-asks
-reply-requires-clause-asks g c κs within none = some_asked (sym c.in-Some.is ∙ c.asked.ensures ∙ none)
+reply-requires-clause-asks g c κs within = c.requires.asks
 
 pub reply-requires-clause-whole : goal.reply-requires-clause-whole
-reply-requires-clause-whole g c κs within = is_whole g.R.Rack g.A.Area c.args.pool.now c.in-Some-pool.pool c.in-Some-pool.is c.requires.desk
+reply-requires-clause-whole g c κs within = is_whole g.R.Rack g.A.Area c.args.pool.now c.in-Some.pool c.in-Some.is c.requires.desk

@@ -31,7 +31,7 @@ returns-in-Ok-None g c = record {
       (let answered = subst (λ r. AnswerIs g.H.R.Rack g.H.A.Area (choices_with (FnReturnsAt g.F.Fn c.args.chooser.now) (PolicyReturns g.P.Fn c.args.policy.now)) c.args.journal.now.entries c.answer.new.journal.entries (command_in c.args.line.now) entry (on_shelf g.H.Shelf c.args.shelf.now) c.args.pool.now x (on_shelf g.H.Shelf c.answer.new.shelf) c.answer.new.pool r)
       (c.in-Ok-None.is ∙ ap Ok c.in-Ok-None.field-0-is) (c.answer.ensures.answer entry x desk) in
       let it = subst (Answered g.H.R.Rack g.H.A.Area (choices_with (FnReturnsAt g.F.Fn c.args.chooser.now) (PolicyReturns g.P.Fn c.args.policy.now)) c.args.journal.now.entries c.answer.new.journal.entries entry (on_shelf g.H.Shelf c.args.shelf.now) c.args.pool.now x [] (on_shelf g.H.Shelf c.answer.new.shelf) c.answer.new.pool) (sym is) answered in
-      record { saids = []; placed = answered_outside g.H.R.Rack g.H.A.Area (choices_with (FnReturnsAt g.F.Fn c.args.chooser.now) (PolicyReturns g.P.Fn c.args.policy.now)) c.args.journal.now.entries c.answer.new.journal.entries text entry (on_shelf g.H.Shelf c.args.shelf.now) c.args.pool.now x [] (on_shelf g.H.Shelf c.answer.new.shelf) c.answer.new.pool (subst IsNoOpening (sym is) (no_opening (command_in c.args.line.now) c.requires.alone)) it; firm = it.2; built = it.3; prints = appends_none (g.K.Sink.held c.args.sink.now) });
+      record { saids = []; placed = answered_outside g.H.R.Rack g.H.A.Area (choices_with (FnReturnsAt g.F.Fn c.args.chooser.now) (PolicyReturns g.P.Fn c.args.policy.now)) c.args.journal.now.entries c.answer.new.journal.entries text entry (on_shelf g.H.Shelf c.args.shelf.now) c.args.pool.now x [] (on_shelf g.H.Shelf c.answer.new.shelf) c.answer.new.pool (subst IsNoOpening (sym is) (no_opening (command_in c.args.line.now) c.requires.alone)) it; firm = it.2; prints = appends_none (g.K.Sink.held c.args.sink.now) });
   later = same_later (g.K.Sink.faults c.args.sink.now);
   cause = done_cause _;
   shelf_later = c.answer.ensures.later;
