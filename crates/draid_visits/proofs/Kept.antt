@@ -92,10 +92,6 @@ module _ {R A : Type 0} (rack : racks.Ghosts R) (area : areas.Ghosts A) where
 
 -- ---- how far a pass is
 
-abbrev pub place_of : Option Pass → ℕ
-place_of None = 0
-place_of (Some p) = p.«at»
-
 -- the pass runs still
 pub runs_kept : {R A : Type 0} (kind : PassKind) (old new : Shard R A) → new.pass ≡ old.pass → IsSomeAnd old.pass (IsRunningOf kind) → (pass : Pass) × (new.pass ≡ Some pass) × IsRunningOf kind pass
 runs_kept kind old new same runs = by new.pass refl (subst (λ o. IsSomeAnd o (IsRunningOf kind)) (sym same) runs)
@@ -106,25 +102,23 @@ runs_kept kind old new same runs = by new.pass refl (subst (λ o. IsSomeAnd o (I
 
 -- ---- what was done so far
 
-pub low_after : (m : ℕ) (was now : Progress) (left most : ℕ) → IsLow m was → now.stripes + left ≤ was.stripes + most → most ≤ 2 ^ 28 → now.repaired ≤ now.stripes * 2 ^ 8 → now.errors ≤ was.errors + LAST_NUMBER → IsLow (m + 1) now
-low_after m was now left most low few bound rewritten errors =
-    record { stripes = (let all = low.stripes in omega (arith, all, few, bound)); repaired = rewritten; errors = (let all = low.errors in omega (arith, all, errors)) }
+pub low_after : (m left errors : ℕ) (now : Progress) → now.stripes + left ≤ (m + 1) * 2 ^ 28 → now.repaired ≤ now.stripes * 2 ^ 8 → errors ≤ m * 2 ^ 48 → now.errors ≤ errors + LAST_NUMBER → IsLow (m + 1) now
+low_after m left errors now few rewritten low upto = record { stripes = omega (arith, few); repaired = rewritten; errors = omega (arith, low, upto) }
 
 pub low_upto : (m : ℕ) (now : Progress) → IsLow m now → IsLow (m + 1) now
 low_upto m now low = record { stripes = (let all = low.stripes in omega (arith, all)); repaired = low.repaired; errors = (let all = low.errors in omega (arith, all)) }
 
-pub room_for : (m : ℕ) (was now : Progress) (left most : ℕ) → IsLow m was → now.stripes + left ≤ was.stripes + most → most ≤ 2 ^ 28 → m < 64 → now.stripes + 1 < 2 ^ 64
-room_for m was now left most low few bound less = (let all = low.stripes in omega (arith, all, few, bound, less))
+pub room_for : (m left : ℕ) (now : Progress) → now.stripes + left ≤ (m + 1) * 2 ^ 28 → m < 64 → now.stripes + 1 < 2 ^ 64
+room_for m left now few less = omega (arith, few, less)
 
-pub rewritten_fits : (m : ℕ) (was now : Progress) (left most repaired : ℕ) → IsLow m was → now.stripes + left ≤ was.stripes + most → most ≤ 2 ^ 28 → m < 64 → now.repaired ≤ now.stripes * 2 ^ 8 → repaired ≤ 2 ^ 8
-    → now.repaired + repaired < 2 ^ 64
-rewritten_fits m was now left most repaired low few bound less upto one = (let all = low.stripes in omega (arith, all, few, bound, less, upto, one))
+pub rewritten_fits : (m left repaired : ℕ) (now : Progress) → now.stripes + left ≤ (m + 1) * 2 ^ 28 → m < 64 → now.repaired ≤ now.stripes * 2 ^ 8 → repaired ≤ 2 ^ 8 → now.repaired + repaired < 2 ^ 64
+rewritten_fits m left repaired now few less upto one = omega (arith, few, less, upto, one)
 
 pub rewritten_more : (stripes before repaired : ℕ) → before ≤ stripes * 2 ^ 8 → repaired ≤ 2 ^ 8 → before + repaired ≤ (stripes + 1) * 2 ^ 8
 rewritten_more stripes before repaired upto one = omega (arith, upto, one)
 
-pub errors_fit : (m : ℕ) (was : Progress) (errors : ℕ) → IsLow m was → errors ≤ LAST_NUMBER → m < 64 → was.errors + errors < 2 ^ 64
-errors_fit m was errors low bound less = (let all = low.errors in omega (arith, all, bound, less))
+pub errors_fit : (m was errors : ℕ) → was ≤ m * 2 ^ 48 → errors ≤ LAST_NUMBER → m < 64 → was + errors < 2 ^ 64
+errors_fit m was errors low bound less = omega (arith, low, bound, less)
 
 pub left_same : (limit : Option ℕ) (was now : Progress) → now.left ≡ was.left → now.stripes ≡ was.stripes → IsLeft limit was → IsLeft limit now
 left_same None was now left stripes is = left ∙ is

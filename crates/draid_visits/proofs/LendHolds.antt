@@ -18,14 +18,14 @@ use Rattle.draid_pool.specs.Passes.{KeepsPass}
 use Rattle.draid_pool.specs.Rounds.{HeldOnce}
 use Rattle.draid_pool.specs.Threads.{KeepsWhole, all_of}
 use Rattle.draid_visits.specs.Starts.{LeftSo}
-use Rattle.draid_visits.specs.Steps.{IsToLend, MovesOn}
-use Rattle.draid_visits.specs.Units.{LastIs, LendsBy, Lent, MayLendIn, UnitIn}
-use Rattle.draid_visits.specs.Visiting.{IsLeft, IsLow, counted}
+use Rattle.draid_visits.specs.Steps.{IsRunningOf, IsToLend, MovesOn}
+use Rattle.draid_visits.specs.Units.{LastIs, LendsBy, Lent, MayLendIn, MayLendOn, UnitIn, place_of, stripes_from}
+use Rattle.draid_visits.specs.Visiting.{IsLeft, IsLow, IsLowFrom, counted}
 use Rattle.draid_visits.specs.declared.progress.Progress.{Progress}
 use Rattle.draid_visits.specs.declared.progress.Visit.{Visit}
 use Rattle.draid_visits.specs.declared.steps.Next.{Next}
 use Rattle.draid_visits.specs.declared.steps.Next.TheVariants as next
-use Rattle.draid_visits.proofs.Kept.{left_counted, left_same, low_after, place_of, rewritten_fits, rewritten_more, room_for}
+use Rattle.draid_visits.proofs.Kept.{left_counted, left_same, low_after, rewritten_fits, rewritten_more, room_for}
 use Rattle.draid_visits.proofs.SyncStays.{held_here}
 use Rattle.draid_visits.proofs.VisitsStay.{whole_then}
 
@@ -37,11 +37,6 @@ is_unused : (b : Bool) (left : Option ℕ) → IsTrue b ↔ (left ≡ Some 0) �
 is_unused b left is unset up = true≢false (sym (is.1 up) ∙ unset)
 
 -- ---- how much is left
-
--- the stripes of a metaslab from where its pass stands
-abbrev pub stripes_from : {R A : Type 0} → Option (Shard R A) → ℕ
-stripes_from None = 0
-stripes_from (Some shard) = metaslab_stripes shard.geometry - place_of shard.pass
 
 place_kept : (a b : Option Pass) → KeepsPass a b → place_of b ≡ place_of a
 place_kept None None keeps = refl
@@ -60,9 +55,15 @@ module _ {R A : Type 0} (rack : racks.Ghosts R) where
   few_from : (o : Option (Shard R A)) (shard : Shard R A) → o ≡ Some shard → Valid rack shard → stripes_from o ≤ 2 ^ 28
   few_from o shard is valid = subst (λ s. stripes_from s ≤ 2 ^ 28) (sym is) (less_by (metaslab_stripes shard.geometry) (place_of shard.pass) (2 ^ 28) (few_stripes shard.geometry valid.part.layout.geometry_is))
 
-  -- and at first no more than that are still to come
-  few_at_first : (o : Option (Shard R A)) (shard : Shard R A) (stripes : ℕ) → o ≡ Some shard → Valid rack shard → stripes + stripes_from o ≤ stripes + 2 ^ 28
-  few_at_first o shard stripes is valid = (let few = few_from o shard is valid in omega (arith, few))
+  -- so no more are counted than fit, as its visit begins
+  pub low_from : (kind : PassKind) (m : ℕ) (last : ℕ → Option (Shard R A)) (p : Progress) → LeftSo m (MayLendIn rack kind) last → IsLow m p → IsLowFrom m (stripes_from (last m)) p
+  low_from kind m last p may low =
+      let few = few_from (last m) may.0 may.1 may.2.valid in
+      record { stripes = (let all = low.stripes in omega (arith, all, few)); repaired = low.repaired; errors = low.errors }
+
+  -- as many are left where others held it
+  same_from : (shard x : Shard R A) → part_of x ≡ part_of shard → KeepsPass shard.pass x.pass → stripes_from (Some x) ≡ stripes_from (Some shard)
+  same_from shard x part keeps = (λ i. metaslab_stripes (part i).geometry - place_kept shard.pass x.pass keeps i)
 
   -- where a stripe or a block landed the pass runs on
   moved_lends : (kind : PassKind) (x y : Shard R A) → MovesOn kind x y → Valid rack y → MayLendIn rack kind y
@@ -77,6 +78,11 @@ module _ {R A : Type 0} (rack : racks.Ghosts R) where
       let here : place_of shard.pass ≡ moves.was.«at» = sym (place_kept shard.pass x.pass keeps) ∙ ap place_of moves.old_pass in
       let there : place_of y.pass ≡ moves.pass.«at» = ap place_of moves.new_pass in
       fewer (metaslab_stripes shard.geometry) (metaslab_stripes y.geometry) (place_of shard.pass) (place_of y.pass) moves.was.«at» moves.pass.«at» (ap (λ (p : Part). metaslab_stripes p.geometry) (same ∙ part)) here there moves.behind moves.inside
+
+-- a pass that runs may lend
+running_lends : (kind : PassKind) (o : Option Pass) → IsSomeAnd o (IsRunningOf kind) → IsSomeAnd o (IsToLend kind)
+running_lends kind None runs = absurd runs
+running_lends kind (Some p) runs = record { kind_is = runs.kind_is; runs = λ is. runs.running }
 
 -- ---- hold after hold
 
@@ -97,7 +103,7 @@ module _ {R A S : Type 0} (rack : racks.Ghosts R) (area : areas.Ghosts A) (last 
     pub record LentSoFar (now : S) (at : Progress) : Type 0 where
       pub whole : KeepsWhole rack owns (all_of owns) (last first) (last now)
       pub may : LeftSo m (MayLendIn rack kind) (last now)
-      pub few : at.stripes + stripes_from (last now m) ≤ p.stripes + 2 ^ 28
+      pub few : at.stripes + stripes_from (last now m) ≤ (m + 1) * 2 ^ 28
       pub rewritten : at.repaired ≤ at.stripes * 2 ^ 8
       pub errors : at.errors ≡ p.errors
       pub from : at.from ≡ p.from
@@ -113,11 +119,11 @@ module _ {R A S : Type 0} (rack : racks.Ghosts R) (area : areas.Ghosts A) (last 
       pub from : q.from ≡ p.from
       pub lends : LendsBy rack area last went shared owns kind m first p result new q
 
-    pub lent_none : LeftSo m (MayLendIn rack kind) (last first) → IsLow m p → LentSoFar first p
+    pub lent_none : LeftSo m (MayLendIn rack kind) (last first) → IsLowFrom m (stripes_from (last first m)) p → LentSoFar first p
     lent_none may low = record {
       whole = λ table seq floor whole. whole;
       may = may;
-      few = few_at_first rack (last first m) may.0 p.stripes may.1 may.2.valid;
+      few = low.stripes;
       rewritten = low.repaired;
       errors = refl;
       from = refl;
@@ -136,14 +142,26 @@ module _ {R A S : Type 0} (rack : racks.Ghosts R) (area : areas.Ghosts A) (last 
       whole_on = whole_then rack owns mine same (last first) (last mid) (last new) i.whole more
 
       -- it was the last
-      pub lent_ends : (result : Visit) (q : Progress) → IsLow m p → LastIs came at result q → q.stripes ≡ at.stripes → q.repaired ≡ at.repaired → q.errors ≤ at.errors + LAST_NUMBER → q.left ≡ at.left → q.from ≡ at.from → LentAll result new q
+      pub lent_ends : (result : Visit) (q : Progress) → p.errors ≤ m * 2 ^ 48 → LastIs came at result q → q.stripes ≡ at.stripes → q.repaired ≡ at.repaired → q.errors ≤ at.errors + LAST_NUMBER → q.left ≡ at.left → q.from ≡ at.from → LentAll result new q
       lent_ends result q low is stripes repaired errors left from = record {
         whole = whole_on;
-        low = low_after m p q (stripes_from (last mid m)) (2 ^ 28) low (let few = i.few in omega (arith, few, stripes)) (omega arith) (let all = i.rewritten in omega (arith, all, stripes, repaired)) (let same = i.errors in omega (arith, errors, same));
+        low = low_after m (stripes_from (last mid m)) p.errors q (let few = i.few in omega (arith, few, stripes)) (let all = i.rewritten in omega (arith, all, stripes, repaired)) low (let same = i.errors in omega (arith, errors, same));
         left = λ limit was. left_same limit at q left stripes (i.left limit was);
         from = from ∙ i.from;
         lends = record { units = i.many; mid = mid; upto = at; front = i.lent; used = used; used_up = test; came = came; back = once; is = is };
       }
+
+    -- it was the last for now
+    pub lent_pauses : owns passes_number ≡ true → p.errors ≤ m * 2 ^ 48 → (mine : ℕ → Bool) → mine ≡ owns → (used : Bool) (mid new : S) (at : Progress) → LentSoFar mid at → HeldOnce rack area last went shared mine (UnitIn rack area kind used next.Paused) mid m new
+        → MayLendOn rack kind m (last new) at
+    lent_pauses own low mine same used mid new at i held =
+        let h : HeldOnce rack area last went shared owns (UnitIn rack area kind used next.Paused) mid m new = subst (λ o. HeldOnce rack area last went shared o (UnitIn rack area kind used next.Paused) mid m new) same held in
+        let at_it = held_here rack area last went shared owns (UnitIn rack area kind used next.Paused) mid m new h in
+        let left : stripes_from (last new m) ≡ stripes_from (last mid m) = ap stripes_from at_it ∙ (ap (λ s. stripes_from (Some s)) (h.did.still refl) ∙ (same_from rack h.shard h.before h.drifts.part (h.drifts.passes own) ∙ sym (ap stripes_from h.there))) in
+        record {
+          lends = (h.after, at_it, record { valid = h.did.valid; pass = running_lends kind h.after.pass (h.did.paused refl).1 });
+          low = record { stripes = (let few = i.few in omega (arith, few, left)); repaired = i.rewritten; errors = (let is = i.errors in omega (arith, is, low)) };
+        }
 
     -- or a stripe or a block landed
     module _ (mine : ℕ → Bool) (same : mine ≡ owns) (used : Bool) (repaired : ℕ) (mid new : S) (at : Progress) (i : LentSoFar mid at) (test : IsTrue used ↔ (at.left ≡ Some 0)) (more : KeepsWhole rack mine (all_of mine) (last mid) (last new))
@@ -161,11 +179,11 @@ module _ {R A S : Type 0} (rack : racks.Ghosts R) (area : areas.Ghosts A) (last 
       few_columns = (landed.did.landed repaired refl).2
 
       -- it is counted
-      pub may_count : m < 64 → IsLow m p → (at.left ≢ Some 0) × (at.stripes + 1 < 2 ^ 64) × (at.repaired + repaired < 2 ^ 64)
-      may_count few low = (
+      pub may_count : m < 64 → (at.left ≢ Some 0) × (at.stripes + 1 < 2 ^ 64) × (at.repaired + repaired < 2 ^ 64)
+      may_count few = (
         is_unused used at.left test unset,
-        room_for m p at (stripes_from (last mid m)) (2 ^ 28) low i.few (omega arith) few,
-        rewritten_fits m p at (stripes_from (last mid m)) (2 ^ 28) repaired low i.few (omega arith) few i.rewritten few_columns,
+        room_for m (stripes_from (last mid m)) at i.few few,
+        rewritten_fits m (stripes_from (last mid m)) repaired at i.few few i.rewritten few_columns,
       )
 
       pub fewer_left : owns passes_number ≡ true → stripes_from (last new m) + 1 ≤ stripes_from (last mid m)

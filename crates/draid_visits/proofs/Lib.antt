@@ -33,6 +33,7 @@ pub mod PassesStay
 pub mod Readied
 pub mod ReadyHolds
 pub mod Rebuilt
+pub mod Resumes
 pub mod ScrubEnds
 pub mod Scrubbed
 pub mod SharedWhole

@@ -1,5 +1,5 @@
 -- A rebuild or a scrub whose syncs always have an answer has one.
-use Rattle.std.proofs.Common.{ℕ, Bool, Option, Some, None, Ok, Err}
+use Rattle.std.proofs.Common.{◌+◌, ℕ, Bool, Option, Some, None, Ok, Err}
 use Rattle.std.specs.Prelude.{Result}
 use Rattle.draid_names.specs.declared.pass_kind.PassKind.{PassKind}
 use Rattle.draid_names.specs.declared.pass_kind.PassKind.TheVariants.{Heal, Rebuild}
@@ -10,10 +10,11 @@ use Rattle.draid_spec.specs.declared.layout.Geometry.{Geometry}
 use Rattle.draid_uber.specs.declared.uber.Uber.{Uber}
 use Rattle.draid_pool.specs.declared.fault.SyncFault.{SyncFault}
 use Rattle.draid_pool.specs.declared.fault.Synced.{Synced}
-use Rattle.draid_visits.specs.Visits.{AnswersBy, LendsBehind, MendsBy, RunsBy, VisitsBehind, VisitsBy}
+use Rattle.draid_visits.specs.Visits.{AnswersBy, LendsBehind, MendsBy, ResumedBehind, ResumesBy, RunsBy, VisitsBehind, VisitsBy}
 use Rattle.draid_visits.specs.declared.mending.Mending.{Mending}
 use Rattle.draid_visits.specs.declared.progress.Progress.{Progress}
 use Rattle.draid_visits.specs.declared.progress.Visit.{Visit}
+use Rattle.draid_visits.specs.declared.progress.Visit.TheVariants as visit
 use Rattle.draid_visits.specs.declared.starting.Begun.{Begun}
 use Rattle.draid_visits.specs.declared.starting.Begun.TheVariants as begun
 
@@ -39,3 +40,11 @@ module _ {R A S : Type 0} (rack : racks.Ghosts R) (area : areas.Ghosts A) (last 
       by : (r : Option Visit) → VisitsBy rack area last went shared owns syncs geometry old.kind old.marks old.next a u old.progress r new.next b v new.progress → AnswersBy rack area last went shared owns r new.progress None → ⊥
       by None s is = behind_end old.kind new.next s.stop.start s.stop.mid b s.uber v s.upto new.progress s.stop.behind
       by (Some end) s is = is
+
+  pub resumes_wait : (old new : Mending) (a b : S) (u v : Uber A) → ResumesBy rack area last went shared owns syncs geometry a u old None b v new → ⊥
+  resumes_wait old new a b u v it = by it.end it.behind
+    where
+      by : (end : Visit) → ResumedBehind rack area last went shared owns syncs geometry end it.mid u (record old { progress = it.upto }) None b v new → ⊥
+      by visit.Over more = mends_wait (record old { next = old.next + 1; progress = it.upto }) new it.mid b u v more
+      by visit.Paused more = more
+      by (visit.Stopped why) more = more

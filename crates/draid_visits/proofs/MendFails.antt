@@ -1,5 +1,5 @@
 -- Where a rebuild or a scrub says that an area failed, a sync said so for which it waited, behind whatever its holds keep.
-use Rattle.std.proofs.Common.{◌≡◌, ◌∙◌, ℕ, Bool, Option, Some, None, Ok, Err, refl, sym, ap, subst}
+use Rattle.std.proofs.Common.{◌≡◌, ◌+◌, ◌∙◌, ℕ, Bool, Option, Some, None, Ok, Err, refl, sym, ap, subst}
 use Rattle.std.specs.Prelude.{Result}
 use Rattle.draid_names.specs.declared.pass_kind.PassKind.{PassKind}
 use Rattle.draid_names.specs.declared.pass_kind.PassKind.TheVariants.{Heal, Rebuild}
@@ -13,7 +13,8 @@ use Rattle.draid_pool.specs.declared.fault.SyncFault.{SyncFault}
 use Rattle.draid_pool.specs.declared.fault.SyncFault.TheVariants as sync
 use Rattle.draid_pool.specs.declared.fault.Synced.{Synced}
 use Rattle.draid_visits.specs.Readies.{ReadiesBy}
-use Rattle.draid_visits.specs.Visits.{AnswersBy, LendsBehind, MendsBy, RunsBy, VisitBy, VisitsBehind, VisitsBy}
+use Rattle.draid_visits.specs.Units.{LastIs, LendsBy}
+use Rattle.draid_visits.specs.Visits.{AnswersBy, LendsBehind, MendsBy, ResumedBehind, ResumesBy, RunsBy, VisitBy, VisitsBehind, VisitsBy}
 use Rattle.draid_visits.specs.Starts.{IsBegun}
 use Rattle.draid_visits.specs.declared.mending.Mending.{Mending}
 use Rattle.draid_visits.specs.declared.progress.Progress.{Progress}
@@ -24,7 +25,7 @@ use Rattle.draid_visits.specs.declared.rebuilding.MendFault.TheVariants as fault
 use Rattle.draid_visits.specs.declared.rebuilding.Mended.{Mended}
 use Rattle.draid_visits.specs.declared.starting.Begun.{Begun}
 use Rattle.draid_visits.specs.declared.starting.Begun.TheVariants as begun
-use Rattle.draid_visits.proofs.MendKeeps.{Leaves, starts, visited, waits_once}
+use Rattle.draid_visits.proofs.MendKeeps.{Leaves, lends, starts, visited, waits_once}
 use Rattle.draid_visits.proofs.Rebuilt.{stopped_shelf}
 use Rattle.draid_visits.proofs.ScrubEnds.{lent_without, planned_without}
 
@@ -76,3 +77,16 @@ module _ {R A S : Type 0} (rack : racks.Ghosts R) (area : areas.Ghosts A) (last 
           let s = subst (λ o. VisitsBy rack area last went shared owns syncs geometry old.kind old.marks old.next a u old.progress o new.next b v new.progress) stops it.visits in
           behind a s.mid b u s.uber v (visited rack area last went shared owns syncs geometry Keeps same on hold sync_keeps old.kind old.marks old.next s.many a s.mid u s.uber old.progress s.upto s.front)
           (visit_fails old.kind new.next s.mid b s.uber v s.upto new.progress s.stop)
+
+  -- nor where it goes on does one fail but in a sync
+  pub resumes_fail : (old new : Mending) (result : Result Mended MendFault) (a b : S) (u v : Uber A) → result ≡ Err fault.Shelf → ResumesBy rack area last went shared owns syncs geometry a u old (Some result) b v new → SyncFailed a u b v
+  resumes_fail old new result a b u v is it = behind a it.mid b u u v (lends rack area last went shared owns syncs geometry Keeps same on hold sync_keeps old.kind old.next it.end a it.mid old.progress it.upto u it.lends) (by it.end it.lends it.behind)
+    where
+      by : (end : Visit) → LendsBy rack area last went shared owns old.kind old.next a old.progress end it.mid it.upto → ResumedBehind rack area last went shared owns syncs geometry end it.mid u (record old { progress = it.upto }) (Some result) b v new → SyncFailed it.mid u b v
+      by visit.Over lent more = mends_fail (record old { next = old.next + 1; progress = it.upto }) new result it.mid b u v is more
+      by visit.Paused lent more = absurd (never (stopped_shelf visit.Paused it.upto result more.3 is))
+        where
+          never : visit.Paused ≡ visit.Stopped sync.Shelf → ⊥
+          never same = absurd (cc)
+      by (visit.Stopped why) lent more =
+          absurd (lent_without lent.came lent.upto it.upto (subst (λ end. LastIs lent.came lent.upto end it.upto) (stopped_shelf (visit.Stopped why) it.upto result more.3 is) lent.is))

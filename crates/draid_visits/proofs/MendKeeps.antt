@@ -24,7 +24,7 @@ use Rattle.draid_visits.specs.Looks.{FindsMarks, FindsPass, SeesEach, SeesPass, 
 use Rattle.draid_visits.specs.Readies.{ReadiesBy, ReadiesIn, Waited}
 use Rattle.draid_visits.specs.Starts.{BeginsBy, StartsIn}
 use Rattle.draid_visits.specs.Units.{LendsBy, Lent, UnitIn}
-use Rattle.draid_visits.specs.Visits.{BeginsRebuild, BeginsScrub, LendsBehind, MendsBy, RunsBy, VisitBy, VisitedAt, VisitedUpto, VisitsBehind, VisitsBy}
+use Rattle.draid_visits.specs.Visits.{BeginsRebuild, BeginsScrub, LendsBehind, MendsBy, ResumedBehind, ResumesBy, RunsBy, VisitBy, VisitedAt, VisitedUpto, VisitsBehind, VisitsBy}
 use Rattle.draid_visits.specs.declared.mending.Mending.{Mending}
 use Rattle.draid_visits.specs.declared.progress.Progress.{Progress}
 use Rattle.draid_visits.specs.declared.progress.Visit.{Visit}
@@ -142,7 +142,7 @@ module _ {R A S : Type 0} (rack : racks.Ghosts R) (area : areas.Ghosts A) (last 
   lent kind m zero a b p q u it = still a b u u it.0 refl
   lent kind m (suc n) a b p q u (mid, r, repaired, front, some, once, counts) = on a mid b u u u (lent kind m n a mid p r u front) (unit kind m false (next.Landed repaired) mid b u once)
 
-  lends : (kind : PassKind) (m : ℕ) (result : Visit) (a b : S) (p q : Progress) (u : Uber A) → LendsBy rack area last went shared owns kind m a p result b q → Keeps a u b u
+  pub lends : (kind : PassKind) (m : ℕ) (result : Visit) (a b : S) (p q : Progress) (u : Uber A) → LendsBy rack area last went shared owns kind m a p result b q → Keeps a u b u
   lends kind m result a b p q u l = on a l.mid b u u u (lent kind m l.units a l.mid p l.upto u l.front) (unit kind m l.used l.came l.mid b u l.back)
 
   lends_behind : (kind : PassKind) (m stripe : ℕ) (made : Option (Result Unit SyncFault)) (result : Option Visit) (a b : S) (p q : Progress) (u : Uber A) → LendsBehind rack area last went shared owns geometry kind m stripe a p made result b q → Keeps a u b u
@@ -197,3 +197,14 @@ module _ {R A S : Type 0} (rack : racks.Ghosts R) (area : areas.Ghosts A) (last 
 
   pub mends : (old new : Mending) (answer : Option (Result Mended MendFault)) (a b : S) (u v : Uber A) → MendsBy rack area last went shared owns syncs geometry a u old answer b v new → Keeps a u b v
   mends old new answer a b u v it = visits old.kind old.marks old.next new.next it.result a b u v old.progress new.progress it.visits
+
+  -- a visit that had paused goes on, and then the rest
+  pub resumes : (old new : Mending) (answer : Option (Result Mended MendFault)) (a b : S) (u v : Uber A) → ResumesBy rack area last went shared owns syncs geometry a u old answer b v new → Keeps a u b v
+  resumes old new answer a b u v it = on a it.mid b u u v (lends old.kind old.next it.end a it.mid old.progress it.upto u it.lends) (by it.end answer it.behind)
+    where
+      by : (end : Visit) (said : Option (Result Mended MendFault)) → ResumedBehind rack area last went shared owns syncs geometry end it.mid u (record old { progress = it.upto }) said b v new → Keeps it.mid u b v
+      by visit.Over said is = mends (record old { next = old.next + 1; progress = it.upto }) new said it.mid b u v is
+      by visit.Paused (Some a) is = still it.mid b u v is.0 is.1
+      by (visit.Stopped why) (Some a) is = still it.mid b u v is.0 is.1
+      by visit.Paused None is = absurd is
+      by (visit.Stopped why) None is = absurd is

@@ -21,7 +21,7 @@ use Rattle.draid_visits.specs.Looks.{FindsPass}
 use Rattle.draid_visits.specs.Rebuilding.{IsAnswer}
 use Rattle.draid_visits.specs.Starts.{IsBegun, StartsIn}
 use Rattle.draid_visits.specs.Units.{LastIs, LendsBy, Lent}
-use Rattle.draid_visits.specs.Visits.{AnswersBy, BeginsScrub, FirstIs, LendsBehind, MendsBy, VisitBy, VisitedAt, VisitedUpto, VisitsBehind, VisitsBy}
+use Rattle.draid_visits.specs.Visits.{AnswersBy, BeginsScrub, FirstIs, LendsBehind, MendsBy, ResumedBehind, ResumesBy, VisitBy, VisitedAt, VisitedUpto, VisitsBehind, VisitsBy}
 use Rattle.draid_visits.specs.declared.mending.Mending.{Mending}
 use Rattle.draid_visits.specs.declared.progress.Progress.{Progress}
 use Rattle.draid_visits.specs.declared.progress.Visit.{Visit}
@@ -171,6 +171,18 @@ module _ {R A S : Type 0} (rack : racks.Ghosts R) (area : areas.Ghosts A) (last 
         let z = visit_ends place s.mid b s.uber v s.upto q None s.stop in
         (z.some, z.over, z.shelf)
 
+    -- so it is where one was begun before
+    upto_stays : (n : ℕ) (a b : S) (u v : Uber A) (p q : Progress) → VisitedUpto rack area last went shared owns syncs geometry Heal marks first n a u p b v q → IsSome p.from → IsSome q.from
+    upto_stays zero a b u v p q it some = subst (λ (r : Progress). IsSome r.from) (sym it.2) some
+    upto_stays (suc n) a b u v p q (mid, w, r, front, it) some = at_stays (slice_index_or marks (first + n) false) (first + n) mid b w v r q it (upto_stays n a mid u w p r front some)
+
+    begun_end : (place : ℕ) (result : Option Visit) (a b : S) (u v : Uber A) (p q : Progress) → IsSome p.from → VisitsBy rack area last went shared owns syncs geometry Heal marks first a u p result place b v q
+        → (result ≡ Some visit.Over → IsSome q.from) × (result ≡ Some (visit.Stopped sync.Shelf) → ⊥)
+    begun_end place (Some visit.Over) a b u v p q some (many, all, front) = ((λ is. upto_stays many a b u v p q front some), (λ is. absurd (cc)))
+    begun_end place (Some visit.Paused) a b u v p q some s = ((λ is. absurd (cc)), (λ is. absurd (cc)))
+    begun_end place (Some (visit.Stopped why)) a b u v p q some s = (let z = visit_ends place s.mid b s.uber v s.upto q (Some (visit.Stopped why)) s.stop in (z.over, z.shelf))
+    begun_end place None a b u v p q some s = (let z = visit_ends place s.mid b s.uber v s.upto q None s.stop in (z.over, z.shelf))
+
   -- ---- the rest of the metaslabs
 
   -- a metaslab that a scrub is to visit
@@ -226,3 +238,18 @@ module _ {R A S : Type 0} (rack : racks.Ghosts R) (area : areas.Ghosts A) (last 
 
       here : 0 + first < geometry.props.metaslabs → slice_index_or it.marks (0 + first) false ≡ true
       here less = (marks (0 + first) (let most = is.props.most_metaslabs in omega (arith, less, most))).1 (omega arith)
+
+  -- ---- what had paused
+
+  -- nor does one say so that goes on
+  pub resumed_answers : (old new : Mending) (result : Result Mended MendFault) (a b : S) (u v : Uber A) → old.kind ≡ Heal → IsSome old.progress.from → ResumesBy rack area last went shared owns syncs geometry a u old (Some result) b v new
+      → (result ≡ Err fault.Nothing → ⊥) × (result ≡ Err fault.Shelf → ⊥)
+  resumed_answers old new result a b u v heal some it = by it.end (lends_end old.next a it.mid old.progress it.upto it.end (subst (λ k. LendsBy rack area last went shared owns k old.next a old.progress it.end it.mid it.upto) heal it.lends) some) it.behind
+    where
+      by : (end : Visit) → ScrubEnds old.progress (Some end) it.upto → ResumedBehind rack area last went shared owns syncs geometry end it.mid u (record old { progress = it.upto }) (Some result) b v new → (result ≡ Err fault.Nothing → ⊥) × (result ≡ Err fault.Shelf → ⊥)
+      by visit.Over z more =
+          answer_never more.result new.progress result more.answers
+          (begun_end old.marks (old.next + 1) new.next more.result it.mid b u v it.upto new.progress (z.stays some)
+          (subst (λ k. VisitsBy rack area last went shared owns syncs geometry k old.marks (old.next + 1) it.mid u it.upto more.result new.next b v new.progress) heal more.visits))
+      by visit.Paused z more = answer_never (Some visit.Paused) it.upto result more.3 (z.over, z.shelf)
+      by (visit.Stopped why) z more = answer_never (Some (visit.Stopped why)) it.upto result more.3 (z.over, z.shelf)

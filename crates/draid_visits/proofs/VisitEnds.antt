@@ -7,6 +7,8 @@ use Rattle.draid_spec.specs.declared.layout.Geometry.{Geometry}
 use Rattle.draid_visits.specs.Visiting.{IsLeft, IsLow}
 use Rattle.draid_visits.specs.Visits.{begun_at}
 use Rattle.draid_visits.specs.declared.progress.Progress.{Progress}
+use Rattle.draid_visits.specs.declared.progress.Visit.{Visit}
+use Rattle.draid_visits.specs.declared.progress.Visit.TheVariants as visit
 use Rattle.draid_visits.proofs.Kept.{left_same}
 
 module _ (geometry : Geometry) (m stripe : ℕ) (was now : Progress) (is : now ≡ begun_at geometry m stripe was) where
@@ -26,6 +28,12 @@ module _ (geometry : Geometry) (m stripe : ℕ) (was now : Progress) (is : now �
 -- by the number that it has in the pool
 pub begins_at : (geometry : Geometry) (m stripe number : ℕ) (was now : Progress) → number ≡ m * metaslab_stripes geometry + stripe → now ≡ record was { from = passes.first_from was.from number } → now ≡ begun_at geometry m stripe was
 begins_at geometry m stripe number was now is begins = begins ∙ ap (λ n. record was { from = passes.first_from was.from n }) is
+
+-- an answer that it paused
+pub some_paused : (end : Visit) → Some end ≡ Some visit.Paused → end ≡ visit.Paused
+some_paused visit.Over is = absurd (cc is)
+some_paused visit.Paused is = refl
+some_paused (visit.Stopped why) is = absurd (cc is)
 
 -- ---- numbers
 

@@ -42,6 +42,12 @@ pub record IsLow (metaslabs : ℕ) (p : Progress) : Type 0 where
   pub repaired : p.repaired ≤ p.stripes * 2 ^ 8
   pub errors : p.errors ≤ metaslabs * 2 ^ 48
 
+-- what so many metaslabs and one more may have added, in which so many stripes are still to come
+pub record IsLowFrom (metaslabs left : ℕ) (p : Progress) : Type 0 where
+  pub stripes : p.stripes + left ≤ (metaslabs + 1) * 2 ^ 28
+  pub repaired : p.repaired ≤ p.stripes * 2 ^ 8
+  pub errors : p.errors ≤ metaslabs * 2 ^ 48
+
 -- what is left of a limit
 abbrev pub IsLeft : Option ℕ → Progress → Type 0
 IsLeft None p = p.left ≡ None

@@ -1,5 +1,5 @@
 -- How metaslabs are visited by a rebuild or a scrub, in holds, and in the syncs for which a rebuild waits, whatever these do.
-use Rattle.std.specs.Prelude.{◌≡◌, ◌<◌, ◌≤◌, ◌+◌, ◌*◌, ◌↔◌, ℕ, zero, suc, Bool, true, false, List, Option, Some, None, Result, Ok, Err, slice_index_or}
+use Rattle.std.specs.Prelude.{◌≡◌, ◌<◌, ◌≤◌, ◌+◌, ◌*◌, ◌↔◌, ℕ, zero, suc, Bool, true, false, List, Option, Some, None, IfOk, IfSome, IsSome, Result, Ok, Err, slice_index_or}
 use Rattle.draid_names.specs.declared.pass_kind.PassKind.{PassKind}
 use Rattle.draid_names.specs.declared.pass_kind.PassKind.TheVariants.{Heal, Rebuild}
 use Rattle.draid_rack.specs.declared.Rack as racks
@@ -20,7 +20,7 @@ use Rattle.draid_visits.specs.Looks.{FindsMarks, FindsPass}
 use Rattle.draid_visits.specs.Readies.{ReadiesBy}
 use Rattle.draid_visits.specs.Rebuilding.{IsAnswer}
 use Rattle.draid_visits.specs.Starts.{BeginsBy}
-use Rattle.draid_visits.specs.Units.{LendsBy}
+use Rattle.draid_visits.specs.Units.{LendsBy, MayLendOn}
 use Rattle.draid_visits.specs.Visiting.{IsOnly, nothing_within}
 use Rattle.draid_visits.specs.declared.mending.Mending.{Mending}
 use Rattle.draid_visits.specs.declared.progress.Progress.{Progress}
@@ -45,6 +45,16 @@ pub record MayVisit {R A : Type 0} (rack : racks.Ghosts R) (area : areas.Ghosts 
   pub beyond : NoneBeyond geometry.props.metaslabs last
   pub layout : HaveLayout geometry last
   pub alone : AllOnly kind last
+
+-- a rebuild or a scrub that paused may go on: it did so in one of the metaslabs, whose pass may lend
+pub record MayResume {R A : Type 0} (rack : racks.Ghosts R) (geometry : Geometry) (last : ℕ → Option (Shard R A)) (it : Mending) : Type 0 where
+  pub below : it.next < geometry.props.metaslabs
+  pub on : MayLendOn rack it.kind it.next last it.progress
+  pub from : IsSome it.progress.from
+
+-- so it is where an answer says that it paused
+abbrev pub WherePaused : Type 0 → Option (Result Mended MendFault) → Type 0
+WherePaused P answer = IfSome answer (λ a. IfOk a (λ it. it.paused ≡ true → P))
 
 -- a pass goes on at a stripe of the pool
 abbrev pub begun_at : Geometry → ℕ → ℕ → Progress → Progress
@@ -151,3 +161,17 @@ module _ {R A S : Type 0} (rack : racks.Ghosts R) (area : areas.Ghosts A) (last 
     pub same : new ≡ record old { next = new.next; progress = new.progress }
     pub visits : VisitsBy rack area last went shared owns syncs geometry old.kind old.marks old.next a u old.progress result new.next b v new.progress
     pub answers : AnswersBy result new.progress answer
+
+  -- a visit that had paused came to an end, and then comes the rest; or it paused again, or was stopped
+  abbrev pub ResumedBehind : (syncs : S → Uber A → Option (Result Synced SyncFault) → S → Uber A → Type 0) (geometry : Geometry) → Visit → S → Uber A → Mending → Option (Result Mended MendFault) → S → Uber A → Mending → Type 0
+  ResumedBehind syncs geometry visit.Over a u it answer b v new = MendsBy syncs geometry a u (record it { next = it.next + 1 }) answer b v new
+  ResumedBehind syncs geometry end a u it (Some answer) b v new = (b ≡ a) × (v ≡ u) × (new ≡ it) × IsAnswer end it.progress answer
+  ResumedBehind syncs geometry end a u it None b v new = ⊥
+
+  -- the visit in which it paused goes on, and the rest of the metaslabs is visited
+  pub record ResumesBy (syncs : S → Uber A → Option (Result Synced SyncFault) → S → Uber A → Type 0) (geometry : Geometry) (a : S) (u : Uber A) (old : Mending) (answer : Option (Result Mended MendFault)) (b : S) (v : Uber A) (new : Mending) : Type 0 where
+    pub end : Visit
+    pub mid : S
+    pub upto : Progress
+    pub lends : LendsBy rack area last went shared owns old.kind old.next a old.progress end mid upto
+    pub behind : ResumedBehind syncs geometry end mid u (record old { progress = upto }) answer b v new

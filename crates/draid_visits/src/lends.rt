@@ -4,8 +4,8 @@ ghost use Rattle.draid_pool.specs.Drifts.{groups_number, passes_number};
 ghost use Rattle.draid_pool.specs.Rounds.{HeldOnce};
 ghost use Rattle.draid_pool.specs.Threads.{KeepsWhole, all_of};
 ghost use Rattle.draid_visits.specs.Starts.{LeftSo};
-ghost use Rattle.draid_visits.specs.Units.{LendsBy, MayLendIn, UnitIn};
-ghost use Rattle.draid_visits.specs.Visiting.{IsLeft, IsLow, PausesAt};
+ghost use Rattle.draid_visits.specs.Units.{LendsBy, MayLendIn, MayLendOn, UnitIn, stripes_from};
+ghost use Rattle.draid_visits.specs.Visiting.{IsLeft, IsLow, IsLowFrom, PausesAt};
 
 use crate::holding::UnitOp;
 use crate::progress::{Progress, Visit};
@@ -27,7 +27,7 @@ pub(crate) fn lend_each<R: Rack, A: Area, M: Metaslabs<R, A>>(
     requires own { M.owns metaslabs.old groups_number ≡ true }
     requires passes { M.owns metaslabs.old passes_number ≡ true }
     requires may { LeftSo metaslab (MayLendIn R.Rack kind) (M.last metaslabs.old) }
-    requires low { IsLow metaslab progress.old }
+    requires low { IsLowFrom metaslab (stripes_from (M.last metaslabs.old metaslab)) progress.old }
     ensures fits { M.fits metaslabs.new }
     ensures locks { M.locks metaslabs.new ≡ M.locks metaslabs.old }
     ensures owns { M.owns metaslabs.new ≡ M.owns metaslabs.old }
@@ -36,6 +36,7 @@ pub(crate) fn lend_each<R: Rack, A: Area, M: Metaslabs<R, A>>(
     ensures left { (limit : Option ℕ) → IsLeft limit progress.old → IsLeft limit progress.new }
     ensures from { progress.new.from ≡ progress.old.from }
     ensures paused { PausesAt result progress.new }
+    ensures on { result ≡ Visit.Paused → MayLendOn R.Rack kind metaslab (M.last metaslabs.new) progress.new }
     ensures lends { LendsBy R.Rack A.Area M.last M.went M.shared (M.owns metaslabs.old) kind metaslab metaslabs.old progress.old result metaslabs.new progress.new }
 {
     'units: loop {

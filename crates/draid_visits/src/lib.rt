@@ -21,7 +21,7 @@ mod visits;
 pub use cancelling::{cancel, cancel_each};
 pub use looks::{find_marks, find_pass};
 pub use marks::pass_in;
-pub use mending::{Mending, begin_rebuild, begin_scrub, go_on};
+pub use mending::{Mending, begin_rebuild, begin_scrub, go_on, resume};
 pub use progress::{Progress, Visit};
 pub use readying::Syncs;
 pub use rebuilding::{MendFault, Mended, rebuild, scrub};

@@ -7,10 +7,12 @@ ghost use Rattle.draid_pool.specs.Drifts.{groups_number, passes_number};
 ghost use Rattle.draid_pool.specs.Rounds.{EachIs, NoneBeyond};
 ghost use Rattle.draid_pool.specs.Threads.{AllStay, KeepsWhole, all_of};
 ghost use Rattle.draid_session.specs.Replies.{IsWithin};
+ghost use Rattle.draid_visits.specs.Units.{MayLendOn};
 ghost use Rattle.draid_visits.specs.Visiting.{IsLeft, IsLow, PausesAt};
-ghost use Rattle.draid_visits.specs.Visits.{AllOnly, BeginsRebuild, BeginsScrub, MayVisit, MendsBy, VisitsBy};
+ghost use Rattle.draid_visits.specs.Visits.{AllOnly, BeginsRebuild, BeginsScrub, MayResume, MayVisit, MendsBy, ResumesBy, VisitsBy, WherePaused};
 ghost use Rattle.draid_visits.specs.Rebuilding.{IsAnswer, IsDone, stopped_by};
 
+use crate::lends::lend_each;
 use crate::looks::{find_marks, find_pass};
 use crate::marks::marks_from;
 use crate::progress::{Progress, Visit};
@@ -132,12 +134,51 @@ pub fn go_on<R: Rack, A: Area, M: Metaslabs<R, A>, S: Syncs<R, A, M>>(
     ensures low { result ≡ None → IsLow mending.new.next mending.new.progress }
     ensures left { (limit : Option ℕ) → IsLeft limit mending.old.progress → IsLeft limit mending.new.progress }
     ensures within { (limit : Option ℕ) → IsLeft limit mending.old.progress → IfSome result (λ answer. IfOk answer (λ it. IsWithin limit it.units it.paused)) }
+    ensures up { WherePaused (mending.new.progress.left ≡ Some 0) result }
+    ensures on { WherePaused (MayResume R.Rack geometry.now (M.last metaslabs.new) mending.new) result }
     ensures mends { MendsBy R.Rack A.Area M.last M.went M.shared (M.owns metaslabs.old) (S.relates (M.owns metaslabs.old) geometry.now.props.metaslabs) geometry.now metaslabs.old uber.old mending.old result metaslabs.new uber.new mending.new }
 {
     let Some(end) = visit_rest(by, metaslabs, uber, geometry, mending) else {
         return None;
     };
     Some(answer(end, &mending.progress))
+}
+
+/// Goes on with a rebuild or a scrub that paused: with the metaslab in which it did, whose pass runs, and then with those behind
+/// it. Who has the uberblock and the passes may do it. Where a sync gives up there is no answer.
+pub fn resume<R: Rack, A: Area, M: Metaslabs<R, A>, S: Syncs<R, A, M>>(
+    by: &S,
+    metaslabs: &mut M,
+    uber: &mut Uber<A>,
+    geometry: &Geometry,
+    mending: &mut Mending,
+) -> Option<Result<Mended, MendFault>>
+    requires fits { M.fits metaslabs.old }
+    requires own { M.owns metaslabs.old groups_number ≡ true }
+    requires passes { M.owns metaslabs.old passes_number ≡ true }
+    requires may { MayVisit R.Rack A.Area geometry.now mending.old.kind (M.last metaslabs.old) uber.old }
+    requires long { length mending.old.marks ≡ 64 }
+    requires on { MayResume R.Rack geometry.now (M.last metaslabs.old) mending.old }
+    ensures fits { M.fits metaslabs.new }
+    ensures locks { M.locks metaslabs.new ≡ M.locks metaslabs.old }
+    ensures owns { M.owns metaslabs.new ≡ M.owns metaslabs.old }
+    ensures may { MayVisit R.Rack A.Area geometry.now mending.old.kind (M.last metaslabs.new) uber.new }
+    ensures whole { KeepsWhole R.Rack (M.owns metaslabs.old) (all_of (M.owns metaslabs.old)) (M.last metaslabs.old) (M.last metaslabs.new) }
+    ensures left { (limit : Option ℕ) → IsLeft limit mending.old.progress → IsLeft limit mending.new.progress }
+    ensures within { (limit : Option ℕ) → IsLeft limit mending.old.progress → IfSome result (λ answer. IfOk answer (λ it. IsWithin limit it.units it.paused)) }
+    ensures up { WherePaused (mending.new.progress.left ≡ Some 0) result }
+    ensures on { WherePaused (MayResume R.Rack geometry.now (M.last metaslabs.new) mending.new) result }
+    ensures resumes { ResumesBy R.Rack A.Area M.last M.went M.shared (M.owns metaslabs.old) (S.relates (M.owns metaslabs.old) geometry.now.props.metaslabs) geometry.now metaslabs.old uber.old mending.old result metaslabs.new uber.new mending.new }
+{
+    let end = lend_each(metaslabs, mending.kind, mending.next, &mut mending.progress);
+    match end {
+        Visit::Over => {
+            mending.next += 1;
+            go_on(by, metaslabs, uber, geometry, mending)
+        }
+        Visit::Paused => Some(answer(Visit::Paused, &mending.progress)),
+        Visit::Stopped { why } => Some(answer(Visit::Stopped { why }, &mending.progress)),
+    }
 }
 
 /// Visits the metaslabs that are marked, from where the visits stand, one after another.
@@ -164,6 +205,7 @@ fn visit_rest<R: Rack, A: Area, M: Metaslabs<R, A>, S: Syncs<R, A, M>>(
     ensures left { (limit : Option ℕ) → IsLeft limit mending.old.progress → IsLeft limit mending.new.progress }
     ensures paused { IfSome result (λ end. PausesAt end mending.new.progress) }
     ensures from { result ≡ Some Visit.Paused → IsSome mending.new.progress.from }
+    ensures on { result ≡ Some Visit.Paused → MayLendOn R.Rack mending.old.kind mending.new.next (M.last metaslabs.new) mending.new.progress }
     ensures visits { VisitsBy R.Rack A.Area M.last M.went M.shared (M.owns metaslabs.old) (S.relates (M.owns metaslabs.old) geometry.now.props.metaslabs) geometry.now mending.old.kind mending.old.marks mending.old.next
         metaslabs.old uber.old mending.old.progress result mending.new.next metaslabs.new uber.new mending.new.progress }
 {

@@ -168,6 +168,7 @@ pub(crate) fn next_in<R: Rack, A: Area>(
     ensures tells { (repaired : ℕ) → kind ≡ Heal → result ≡ Next.Landed repaired → TellsLanding R.Rack shard.old shard.new }
     ensures ended { (errors : ℕ) → result ≡ Next.Ended errors → (shard.new.pass ≡ None) × (errors ≤ LAST_NUMBER) }
     ensures paused { result ≡ Next.Paused → (used_up ≡ true) × IsSomeAnd shard.new.pass (IsRunningOf kind) }
+    ensures still { result ≡ Next.Paused → shard.new ≡ shard.old }
     ensures only { IsOnly kind shard.new }
     ensures moves { (part : Part) (pieces : Pieces) (x : Metaslab) → IsMetaslab R.Rack A.Area part pieces shard.old x
         → GoesLater R.Rack A.Area part pieces x shard.new }
@@ -192,6 +193,7 @@ fn rest_in<R: Rack, A: Area>(shard: &mut Shard<R, A>, kind: PassKind) -> Next
     ensures groups { KeepsGroups shard.old shard.new }
     ensures areas { SameAreas shard.old shard.new }
     ensures paused { result ≡ Next.Paused → IsSomeAnd shard.new.pass (IsRunningOf kind) }
+    ensures still { result ≡ Next.Paused → shard.new ≡ shard.old }
     ensures ended { (errors : ℕ) → result ≡ Next.Ended errors → (shard.new.pass ≡ None) × (errors ≤ LAST_NUMBER) }
     ensures others { (result ≡ Next.Paused) ⊎ ((errors : ℕ) × (result ≡ Next.Ended errors)) }
     ensures only { IsOnly kind shard.new }

@@ -5,7 +5,7 @@ ghost use Rattle.draid_spec.specs.Geometry.{IsGeometry, metaslab_stripes};
 ghost use Rattle.draid_pool.specs.Drifts.{groups_number, passes_number};
 ghost use Rattle.draid_pool.specs.Threads.{KeepsWhole, all_of};
 ghost use Rattle.draid_visits.specs.Starts.{LeftSo};
-ghost use Rattle.draid_visits.specs.Units.{MayLendIn};
+ghost use Rattle.draid_visits.specs.Units.{MayLendIn, MayLendOn};
 ghost use Rattle.draid_visits.specs.Visiting.{IsLeft, IsLow, PausesAt};
 ghost use Rattle.draid_visits.specs.Visits.{LendsBehind, MayVisit, RunsBy, VisitBy};
 
@@ -46,6 +46,7 @@ pub(crate) fn visit<R: Rack, A: Area, M: Metaslabs<R, A>, S: Syncs<R, A, M>>(
     ensures left { (limit : Option ℕ) → IsLeft limit progress.old → IsLeft limit progress.new }
     ensures paused { IfSome result (λ end. PausesAt end progress.new) }
     ensures from { result ≡ Some Visit.Paused → IsSome progress.new.from }
+    ensures on { result ≡ Some Visit.Paused → MayLendOn R.Rack kind metaslab (M.last metaslabs.new) progress.new }
     ensures visits { VisitBy R.Rack A.Area M.last M.went M.shared (M.owns metaslabs.old) (S.relates (M.owns metaslabs.old) geometry.now.props.metaslabs) geometry.now kind metaslab metaslabs.old uber.old progress.old result metaslabs.new uber.new progress.new }
 {
     match begin_visit(metaslabs, kind, metaslab) {
@@ -86,6 +87,7 @@ fn run<R: Rack, A: Area, M: Metaslabs<R, A>, S: Syncs<R, A, M>>(
     ensures left { (limit : Option ℕ) → IsLeft limit progress.old → IsLeft limit progress.new }
     ensures paused { IfSome result (λ end. PausesAt end progress.new) }
     ensures from { result ≡ Some Visit.Paused → IsSome progress.new.from }
+    ensures on { result ≡ Some Visit.Paused → MayLendOn R.Rack kind metaslab (M.last metaslabs.new) progress.new }
     ensures runs { (made : Option (Result Unit SyncFault)) × (mid : M)
         × RunsBy R.Rack A.Area M.last M.went M.shared (M.owns metaslabs.old) (S.relates (M.owns metaslabs.old) geometry.now.props.metaslabs) kind metaslab metaslabs.old uber.old made mid uber.new
         × LendsBehind R.Rack A.Area M.last M.went M.shared (M.owns metaslabs.old) geometry.now kind metaslab stripe mid progress.old made result metaslabs.new progress.new }

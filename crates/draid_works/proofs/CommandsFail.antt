@@ -15,7 +15,7 @@ use Rattle.draid_works.specs.Job.{CommandsDone}
 use Rattle.draid_works.specs.Replied.{CommandDone}
 
 module _ {R A G W : Type 0} (rack : racks.Ghosts R) (area : areas.Ghosts A) (choices : Choices) where
-  command_fails : (command : Command) (failed : Failed) (old new : Lane R A G W) → CommandDone rack area choices command (Err failed) old new → AreaFailedIn rack area old.uber.now old.metaslabs new.metaslabs old.pass new.pass
+  command_fails : (command : Command) (failed : Failed) (old new : Lane R A G W) → CommandDone rack area choices command (Err failed) old new → AreaFailedLane rack area old new
   command_fails script.SyncPool failed old new d = d.cause refl
   command_fails (script.TakeOffline leaf) failed old new d = d.cause refl
   command_fails (script.TakeOnline leaf) failed old new d = d.cause refl
@@ -57,7 +57,8 @@ module _ {R A G W : Type 0} (rack : racks.Ghosts R) (area : areas.Ghosts A) (cho
   fails_from [] [] first old new same d = absurd d
   fails_from [] (reply ∷ replies) first old new same d = absurd d
   fails_from (line ∷ lines) [] first old new same (failed, leaves, d) =
-      record { mid = old; same = same; failed = subst (λ l. AreaFailedIn rack area l old.metaslabs new.metaslabs old.pass new.pass) same.uber (command_fails (command_in line) failed old new d) }
+      (let f = command_fails (command_in line) failed old new d in
+      record { mid = f.mid; same = same_then first old f.mid same f.same; failed = subst (λ l. AreaFailedIn rack area l f.mid.metaslabs new.metaslabs f.mid.pass new.pass) same.uber f.failed })
   fails_from (line ∷ lines) (reply ∷ replies) first old new same (mid, leaves, d, rest) = fails_from lines replies first mid new (same_then first old mid same leaves.same) rest
 
   pub commands_fail : (lines : List Line) (replies : List Reply) (old new : Lane R A G W) → CommandsDone rack area choices lines replies true old new → AreaFailedLane rack area old new

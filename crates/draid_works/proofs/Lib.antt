@@ -4,6 +4,7 @@ pub mod Done
 pub mod FilledIn
 pub mod FilledTable
 pub mod Grown
+pub mod InPart
 pub mod LaneStays
 pub mod LaneTeaches
 pub mod LaneTells
@@ -15,6 +16,10 @@ pub mod MendFinds
 pub mod MendLater
 pub mod MendLeads
 pub mod MendLooks
+pub mod MendLoop
+pub mod MendMade
+pub mod MendOn
+pub mod MendParts
 pub mod MendRebuilt
 pub mod MendSays
 pub mod MendScrubbed
@@ -23,11 +28,15 @@ pub mod MendSees
 pub mod MendStays
 pub mod MendSteps
 pub mod MendSyncs
+pub mod MendTale
 pub mod MendThrough
 pub mod MendTold
+pub mod MendTurn
 pub mod MendTurns
+pub mod MendWay
 pub mod MendWords
 pub mod Mended
+pub mod PartHolds
 pub mod Replied
 pub mod ScrubEnds
 pub mod SwitchArms

@@ -2,7 +2,6 @@
 use Rattle.std.proofs.Common.{◌≡◌, ◌<◌, ◌≤◌, ◌⊎◌, inl, inr, ℕ, Bool, true, Option, Some, None, refl}
 use Rattle.std.specs.Prelude.{Result}
 use Rattle.std.proofs.lemmas.Bool.{cases_lt}
-use Rattle.draid_names.specs.declared.pass_kind.PassKind.{PassKind}
 use Rattle.draid_rack.specs.declared.Rack as racks
 use Rattle.draid_area.specs.declared.Area as areas
 use Rattle.draid_machine.proofs.Small.{none_some}
@@ -13,12 +12,10 @@ use Rattle.draid_pool.specs.Drifts.{groups_number}
 use Rattle.draid_pool.specs.Rounds.{HeldOnce, NoneBeyond}
 use Rattle.draid_pool.specs.declared.fault.SyncFault.{SyncFault}
 use Rattle.draid_pool.specs.declared.fault.Synced.{Synced}
-use Rattle.draid_visits.specs.declared.rebuilding.MendFault.{MendFault}
-use Rattle.draid_visits.specs.declared.rebuilding.Mended.{Mended}
 use Rattle.draid_visits.proofs.MendKeeps.{Leaves}
 use Rattle.draid_lanes.proofs.SyncArms.{HasArms, SameLayout, arms_groups, arms_on, layout_still, layout_then, through_arms}
-use Rattle.draid_works.specs.Mended.{MendsThrough, SyncsWaiting}
-use Rattle.draid_works.proofs.MendSteps.{mends_keeps}
+use Rattle.draid_works.specs.Mended.{SyncsWaiting, TurnBy}
+use Rattle.draid_works.proofs.MendSteps.{turn_keeps}
 
 -- a metaslab that was held is one of the first so many
 pub held_below : {R A S : Type 0} (rack : racks.Ghosts R) (area : areas.Ghosts A) (last : S → ℕ → Option (Shard R A)) (went : S → ℕ → Shard R A → Shard R A → S → Type 0) (shared : Bool) (owns : ℕ → Bool) (count : ℕ) (does : Shard R A → Shard R A → Type 0) (a : S) (m : ℕ) (b : S)
@@ -53,6 +50,5 @@ module _ {R A S : Type 0} (rack : racks.Ghosts R) (area : areas.Ghosts A) (last 
   sync_arms a b u v None syncs g = absurd syncs
   sync_arms a b u v (Some result) syncs g = through_arms rack area last went shared owns own geometry.props.metaslabs limit a b u v result syncs g
 
-  pub mended_arms : (kind : PassKind) (most : Option ℕ) (result : Result Mended MendFault) (a b : S) (u v : Uber A) → MendsThrough rack area last went shared owns geometry kind most a u result b v
-      → HasArms rack area last went shared owns own geometry.props.metaslabs limit a → HasArms rack area last went shared owns own geometry.props.metaslabs limit b × SameLayout u v
-  mended_arms kind most result a b u v it = mends_keeps rack area last went shared owns geometry HasBoth (λ s w g. (g, layout_still w w refl)) both_then hold_arms sync_arms kind most result a b u v it
+  pub mended_arms : (a b : S) (u v : Uber A) → TurnBy rack area last went shared owns geometry a u b v → HasArms rack area last went shared owns own geometry.props.metaslabs limit a → HasArms rack area last went shared owns own geometry.props.metaslabs limit b × SameLayout u v
+  mended_arms a b u v it = turn_keeps rack area last went shared owns geometry HasBoth (λ s w g. (g, layout_still w w refl)) both_then hold_arms sync_arms a b u v it

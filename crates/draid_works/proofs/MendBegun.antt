@@ -1,5 +1,6 @@
 -- What a thread has behind the looks with which a rebuild or a scrub begins.
-use Rattle.std.proofs.Common.{◌≡◌, ◌∙◌, ◌+◌, ℕ, Bool, true, Option, Ok, length, sym, ap, subst}
+use Rattle.std.proofs.Common.{◌≡◌, ◌∙◌, ◌+◌, ℕ, Bool, true, false, Option, Some, Ok, sym, ap, subst}
+use Rattle.std.specs.Prelude.{Result}
 use Rattle.draid_names.specs.declared.pass_kind.PassKind.{PassKind}
 use Rattle.draid_names.specs.declared.pass_kind.PassKind.TheVariants.{Heal, Rebuild}
 use Rattle.draid_rack.specs.declared.Rack as racks
@@ -14,11 +15,15 @@ use Rattle.draid_pool.specs.Threads.{AllStay}
 use Rattle.draid_pool.proofs.Holding.{some_same}
 use Rattle.draid_pool.proofs.QuietWhole.{layout_stays}
 use Rattle.draid_visits.specs.Visiting.{IsLeft, IsLow}
-use Rattle.draid_visits.specs.Visits.{AllOnly, MayVisit}
+use Rattle.draid_visits.specs.Visits.{AllOnly, MayVisit, ResumedBehind}
 use Rattle.draid_visits.specs.declared.mending.Mending.{Mending}
+use Rattle.draid_visits.specs.declared.progress.Visit.{Visit}
+use Rattle.draid_visits.specs.declared.progress.Visit.TheVariants as visit
+use Rattle.draid_visits.specs.declared.rebuilding.MendFault.{MendFault}
+use Rattle.draid_visits.specs.declared.rebuilding.Mended.{Mended}
 use Rattle.draid_visits.proofs.Rebuilt.{left_first}
 use Rattle.draid_visits.proofs.Scrubbed.{low_first}
-use Rattle.draid_works.specs.Mended.{BeginsMend, IsFresh, MayMend}
+use Rattle.draid_works.specs.Mended.{BeginsMend, IsFresh, MayMend, PartBy, SyncsWaiting}
 
 module _ {R A : Type 0} (rack : racks.Ghosts R) (area : areas.Ghosts A) (geometry : Geometry) where
   -- behind looks it may mend still
@@ -60,5 +65,12 @@ module _ (kind : PassKind) (limit : Option ℕ) (it : Mending) (begun : IsFresh 
   left_begun = subst (IsLeft limit) (sym begun.progress_is) (left_first limit)
 
 -- what goes on is of the kind that it was, and visits the same metaslabs
-pub same_mending : (old new : Mending) → new ≡ record old { next = new.next; progress = new.progress } → (new.kind ≡ old.kind) × (length new.marks ≡ length old.marks)
-same_mending old new same = (ap (λ (q : Mending). q.kind) same, ap (λ (q : Mending). length q.marks) same)
+pub part_same : {R A S : Type 0} (rack : racks.Ghosts R) (area : areas.Ghosts A) (last : S → ℕ → Option (Shard R A)) (went : S → ℕ → Shard R A → Shard R A → S → Type 0) (shared : Bool) (owns : ℕ → Bool) (geometry : Geometry) (inside : Bool) (old new : Mending) (result : Result Mended MendFault) (a b : S) (u v : Uber A)
+    → PartBy rack area last went shared owns geometry inside a u old (Some result) b v new → (new.kind ≡ old.kind) × (new.marks ≡ old.marks)
+part_same rack area last went shared owns geometry false old new result a b u v it = (ap (λ (q : Mending). q.kind) it.same, ap (λ (q : Mending). q.marks) it.same)
+part_same rack area last went shared owns geometry true old new result a b u v it = by it.end it.behind
+  where
+    by : (end : Visit) → ResumedBehind rack area last went shared owns (SyncsWaiting rack area last went shared owns geometry.props.metaslabs) geometry end it.mid u (record old { progress = it.upto }) (Some result) b v new → (new.kind ≡ old.kind) × (new.marks ≡ old.marks)
+    by visit.Over more = (ap (λ (q : Mending). q.kind) more.same, ap (λ (q : Mending). q.marks) more.same)
+    by visit.Paused more = (ap (λ (q : Mending). q.kind) more.2, ap (λ (q : Mending). q.marks) more.2)
+    by (visit.Stopped why) more = (ap (λ (q : Mending). q.kind) more.2, ap (λ (q : Mending). q.marks) more.2)

@@ -1,5 +1,5 @@
 -- Where a rebuild or a scrub in a lane says that an area failed, one did in its turn of the uberblock.
-use Rattle.std.proofs.Common.{◌≡◌, ◌≤◌, inl, inr, ℕ, Bool, true, Option, Some, None, Ok, Err, arith, refl}
+use Rattle.std.proofs.Common.{◌≡◌, ◌≤◌, ℕ, Bool, true, false, Option, Some, None, Err, arith, refl}
 use Rattle.std.specs.Prelude.{Result}
 use Rattle.draid_names.specs.declared.pass_kind.PassKind.{PassKind}
 use Rattle.draid_names.specs.declared.pass_kind.PassKind.TheVariants.{Heal, Rebuild}
@@ -14,12 +14,11 @@ use Rattle.draid_pool.specs.Rounds.{HeldOnce}
 use Rattle.draid_pool.specs.declared.fault.SyncFault.{SyncFault}
 use Rattle.draid_pool.specs.declared.fault.SyncFault.TheVariants as sync
 use Rattle.draid_pool.specs.declared.fault.Synced.{Synced}
-use Rattle.draid_visits.specs.Visits.{MendsBy}
 use Rattle.draid_visits.specs.declared.mending.Mending.{Mending}
 use Rattle.draid_visits.specs.declared.rebuilding.MendFault.{MendFault}
 use Rattle.draid_visits.specs.declared.rebuilding.MendFault.TheVariants as fault
 use Rattle.draid_visits.specs.declared.rebuilding.Mended.{Mended}
-use Rattle.draid_visits.proofs.MendFails.{mends_fail}
+use Rattle.draid_visits.proofs.MendFails.{SyncFailed, mends_fail, resumes_fail}
 use Rattle.draid_visits.proofs.MendKeeps.{Leaves}
 use Rattle.draid_lanes.specs.Governing.{lane_last}
 use Rattle.draid_lanes.specs.Locks.{owned_by}
@@ -27,10 +26,9 @@ use Rattle.draid_lanes.specs.Waits.{LaneWent}
 use Rattle.draid_lanes.specs.declared.locked.Locked.{Locked}
 use Rattle.draid_lanes.specs.declared.uber.UberCell.{UberCell}
 use Rattle.draid_lanes.specs.Failing.{AreaFailedIn, AreaFails}
-use Rattle.draid_works.specs.Mended.{BeginsMend, MendedIn, MendsThrough, SyncsWaiting}
+use Rattle.draid_works.specs.Mended.{BeginsMend, PartBy, PartIn, SyncsWaiting}
 use Rattle.draid_lanes.proofs.UberLater.{own_count, still_later, through_later}
 use Rattle.draid_works.proofs.LaneStays.{lane_later}
-use Rattle.draid_works.proofs.MendSteps.{begins}
 use Rattle.draid_works.proofs.SyncFails.{Reach, fails_behind, fails_in, reach_then, synced_fails, synced_reach}
 
 module _ {R A S : Type 0} (rack : racks.Ghosts R) (area : areas.Ghosts A) (last : S → ℕ → Option (Shard R A)) (went : S → ℕ → Shard R A → Shard R A → S → Type 0) (shared : Bool) (mine : ℕ → Bool)
@@ -56,7 +54,7 @@ module _ {R A S : Type 0} (rack : racks.Ghosts R) (area : areas.Ghosts A) (last 
   sync_leads a b u v (Some result) syncs = (synced_reach rack area last went shared mine later geometry.props.metaslabs a b u v result syncs, through_later rack area last went shared mine geometry.props.metaslabs a b u v result syncs)
 
   -- it doesn't begin so
-  begun_not : (kind : PassKind) (limit : Option ℕ) (why : MendFault) (a b : S) → why ≡ fault.Shelf → BeginsMend rack area last went shared mine geometry kind limit a (Err why) b → ⊥
+  pub begun_not : (kind : PassKind) (limit : Option ℕ) (why : MendFault) (a b : S) → why ≡ fault.Shelf → BeginsMend rack area last went shared mine geometry kind limit a (Err why) b → ⊥
   begun_not Rebuild limit fault.Shelf a b is it = it
   begun_not Rebuild limit fault.Nothing a b is it = absurd (cc)
   begun_not Rebuild limit (fault.PassThere metaslab number) a b is it = absurd (cc)
@@ -70,24 +68,20 @@ module _ {R A S : Type 0} (rack : racks.Ghosts R) (area : areas.Ghosts A) (last 
   begun_not Heal limit fault.Last a b is it = it
   begun_not Heal limit fault.NoMemory a b is it = it
 
-  rest_fails : (old new : Mending) (result : Result Mended MendFault) (a b : S) (u v : Uber A) → result ≡ Err fault.Shelf → MendsBy rack area last went shared mine (SyncsWaiting rack area last went shared mine geometry.props.metaslabs) geometry a u old (Some result) b v new → AreaFails area went a u b v
-  rest_fails old new result a b u v is it =
-      let f = mends_fail rack area last went shared mine (SyncsWaiting rack area last went shared mine geometry.props.metaslabs) geometry Leads leads_same leads_then hold_leads sync_leads old new result a b u v is it in
+  pub part_fails : (inside : Bool) (old new : Mending) (result : Result Mended MendFault) (a b : S) (u v : Uber A) → result ≡ Err fault.Shelf → PartBy rack area last went shared mine geometry inside a u old (Some result) b v new → AreaFails area went a u b v
+  part_fails inside old new result a b u v is it =
+      let f = by inside it in
       fails_behind rack area last went shared mine later a f.mid b u f.uber v f.front.0 f.front.1 (synced_fails rack area last went shared mine later geometry.props.metaslabs f.mid b f.uber v (Err sync.Shelf) refl f.failed)
-
-  pub mended_fails : (kind : PassKind) (limit : Option ℕ) (result : Result Mended MendFault) (a b : S) (u v : Uber A) → result ≡ Err fault.Shelf → MendsThrough rack area last went shared mine geometry kind limit a u result b v → AreaFails area went a u b v
-  mended_fails kind limit result a b u v is (inl (it, mid, new, starts, rest)) =
-      let to = begins rack area last went shared mine geometry Leads leads_same leads_then hold_leads sync_leads kind limit (Ok it) a mid u starts in
-      fails_behind rack area last went shared mine later a mid b u u v to.0 to.1 (rest_fails it new result mid b u v is rest)
-  mended_fails kind limit result a b u v is (inr (why, same, starts, at)) = absurd (begun_not kind limit why a b (why_is why same) starts)
     where
-      why_is : (e : MendFault) → result ≡ Err e → e ≡ fault.Shelf
-      why_is e one = cc
+      by : (t : Bool) → PartBy rack area last went shared mine geometry t a u old (Some result) b v new
+          → SyncFailed rack area last went shared mine (SyncsWaiting rack area last went shared mine geometry.props.metaslabs) geometry Leads leads_same leads_then hold_leads sync_leads a u b v
+      by false it = mends_fail rack area last went shared mine (SyncsWaiting rack area last went shared mine geometry.props.metaslabs) geometry Leads leads_same leads_then hold_leads sync_leads old new result a b u v is it
+      by true it = resumes_fail rack area last went shared mine (SyncsWaiting rack area last went shared mine geometry.props.metaslabs) geometry Leads leads_same leads_then hold_leads sync_leads old new result a b u v is it
 
 -- ---- a lane's
 
-pub lane_mend_fails : {R A G W : Type 0} (rack : racks.Ghosts R) (area : areas.Ghosts A) (geometry : Geometry) (kind : PassKind) (limit : Option ℕ) (lock : Lock (UberCell R A)) (old new : Locked R A G W) (result : Result Mended MendFault) (pass next : Caller (Past (UberCell R A)))
-    → MendedIn rack area geometry kind limit lock old new result pass next → result ≡ Err fault.Shelf → AreaFailedIn rack area lock old new pass next
-lane_mend_fails rack area geometry kind limit lock old new result pass next did is =
-    fails_in rack area _ lock old new None (Some result) pass next did
-    (mended_fails rack area lane_last (LaneWent rack area) true (owned_by did.related.met.passes.items) (lane_later rack area) geometry kind limit result did.related.met did.related.after did.value.uber did.left.uber is did.related.related.0)
+pub lane_part_fails : {R A G W : Type 0} (rack : racks.Ghosts R) (area : areas.Ghosts A) (geometry : Geometry) (inside : Bool) (lock : Lock (UberCell R A)) (old new : Locked R A G W) (was now : Mending) (result : Result Mended MendFault) (pass next : Caller (Past (UberCell R A)))
+    → PartIn rack area geometry inside lock old was new result now pass next → result ≡ Err fault.Shelf → AreaFailedIn rack area lock old new pass next
+lane_part_fails rack area geometry inside lock old new was now result pass next did is =
+    fails_in rack area _ lock old new (was, None) (now, Some result) pass next did
+    (part_fails rack area lane_last (LaneWent rack area) true (owned_by did.related.met.passes.items) (lane_later rack area) geometry inside was now result did.related.met did.related.after did.value.uber did.left.uber is did.related.related.part)

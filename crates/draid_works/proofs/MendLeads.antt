@@ -23,7 +23,7 @@ use Rattle.draid_pool.proofs.SyncWhole.{beyond_on, quiet_on}
 use Rattle.draid_visits.specs.Readies.{ReadiesBy, ReadiesIn, Waited}
 use Rattle.draid_visits.specs.Starts.{BeginsBy, StartsIn}
 use Rattle.draid_visits.specs.Units.{LendsBy, Lent, UnitIn}
-use Rattle.draid_visits.specs.Visits.{AnswersBy, RunsBy, VisitStopsAt, VisitedAt, VisitedUpto, VisitsBehind, VisitsBy}
+use Rattle.draid_visits.specs.Visits.{AnswersBy, ResumedBehind, RunsBy, VisitStopsAt, VisitedAt, VisitedUpto, VisitsBehind, VisitsBy}
 use Rattle.draid_visits.specs.declared.mending.Mending.{Mending}
 use Rattle.draid_visits.specs.declared.progress.Progress.{Progress}
 use Rattle.draid_visits.specs.declared.progress.Visit.{Visit}
@@ -44,7 +44,7 @@ use Rattle.draid_lanes.proofs.OneTurn.{Once}
 use Rattle.draid_lanes.proofs.SyncThrough.{through_next}
 use Rattle.draid_works.specs.Mended.{BeginsMend}
 use Rattle.draid_works.proofs.MendArms.{held_below}
-use Rattle.draid_works.proofs.MendRebuilt.{Rest, Through, mend_holds, rest_holds}
+use Rattle.draid_works.proofs.PartHolds.{Part_in, Rest, Resumed_in, later_holds, part_holds, rest_holds, resumed_holds}
 use Rattle.draid_works.proofs.MendThrough.{leaves_quiet}
 use Rattle.draid_works.proofs.MendWords.{Syncs_in, Visit_in, at_holds, behind_holds, ready_holds, run_holds, sync_holds, upto_holds, visit_holds, visits_holds, waited_holds}
 
@@ -244,7 +244,20 @@ module _ {R A G W : Type 0} (rack : racks.Ghosts R) (area : areas.Ghosts A) (x z
       by (Some end) visits answers = visits_lead begun.kind begun.marks begun.next end new.next w a b u v begun.progress new.progress visits s
       by None visits answers = absurd answers
 
-  pub mend_leads : (kind : PassKind) (limit : Option ℕ) (a b : Locked R A G W) (u v : Uber A) (result : Result Mended MendFault) (it : Through rack area x owns own some kind limit a u result b v) → Stand z a u
-      → LeadsUber rack area x z z (mend_holds rack area x owns own some kind limit a b u v result it) b v
-  mend_leads kind limit a b u v result (inl (begun, mid, new, starts, rest)) s = rest_lead z mid b u v begun new result rest (begins_stand z kind limit (Ok begun) a mid u starts s)
-  mend_leads kind limit a b u v result (inr (why, is, begins, same)) s = leads_of z [] b v (led_self z b v (led_same z b b u v refl same (begins_stand z kind limit (Err why) a b u begins s)))
+  resumed_lead : (w : State) (a b : Locked R A G W) (u v : Uber A) (was now : Mending) (result : Result Mended MendFault) (it : Resumed_in rack area x owns own some a u was (Some result) b v now) → Stand w a u
+      → LeadsUber rack area x z w (resumed_holds rack area x owns own some a b u v was now (Some result) it) b v
+  resumed_lead w a b u v was now result it s = by it.end it.behind (lends_stand was.kind was.next w a it.mid was.progress it.upto it.end u it.lends s)
+    where
+      by : (end : Visit) (is : ResumedBehind rack area lane_last (LaneWent rack area) true owns (Syncs_in rack area x owns own some) x.geometry end it.mid u (record was { progress = it.upto }) (Some result) b v now) → Stand w it.mid u
+          → LeadsUber rack area x z w (later_holds rack area x owns own some end it.mid b u v (record was { progress = it.upto }) now (Some result) is) b v
+      by visit.Over is s = rest_lead w it.mid b u v (record was { next = was.next + 1; progress = it.upto }) now result is s
+      by visit.Paused is s = leads_of w [] b v (led_self w b v (led_same w it.mid b u v is.0 is.1 s))
+      by (visit.Stopped why) is s = leads_of w [] b v (led_self w b v (led_same w it.mid b u v is.0 is.1 s))
+
+  pub part_leads : (inside : Bool) (a b : Locked R A G W) (u v : Uber A) (was now : Mending) (result : Result Mended MendFault) (it : Part_in rack area x owns own some inside a u was result b v now) → Stand z a u
+      → LeadsUber rack area x z z (part_holds rack area x owns own some inside a b u v was now result it) b v
+  part_leads false a b u v was now result it s = rest_lead z a b u v was now result it s
+  part_leads true a b u v was now result it s = resumed_lead z a b u v was now result it s
+
+  pub begin_leads : (kind : PassKind) (limit : Option ℕ) (result : Result Mending MendFault) (a b : Locked R A G W) (u v : Uber A) → v ≡ u → BeginsMend rack area lane_last (LaneWent rack area) true owns x.geometry kind limit a result b → Stand z a u → LeadsUber rack area x z z [] b v
+  begin_leads kind limit result a b u v same begins s = leads_of z [] b v (led_self z b v (led_same z b b u v refl same (begins_stand z kind limit result a b u begins s)))

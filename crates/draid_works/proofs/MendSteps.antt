@@ -1,5 +1,5 @@
 -- What is so behind a rebuild or a scrub whose syncs wait: whatever each of its holds and each of its syncs keeps, and that follows one behind another.
-use Rattle.std.proofs.Common.{inl, inr, ℕ, Bool, Option, Some, Ok, Err, sym, subst}
+use Rattle.std.proofs.Common.{inl, inr, ℕ, Bool, true, false, Option, Some, sym, subst}
 use Rattle.std.specs.Prelude.{Result}
 use Rattle.draid_names.specs.declared.pass_kind.PassKind.{PassKind}
 use Rattle.draid_names.specs.declared.pass_kind.PassKind.TheVariants.{Heal, Rebuild}
@@ -14,8 +14,8 @@ use Rattle.draid_pool.specs.declared.fault.SyncFault.{SyncFault}
 use Rattle.draid_visits.specs.declared.mending.Mending.{Mending}
 use Rattle.draid_visits.specs.declared.rebuilding.MendFault.{MendFault}
 use Rattle.draid_visits.specs.declared.rebuilding.Mended.{Mended}
-use Rattle.draid_visits.proofs.MendKeeps.{Leaves, mends, rebuild_begins, scrub_begins}
-use Rattle.draid_works.specs.Mended.{BeginsMend, MendsThrough, SyncsWaiting}
+use Rattle.draid_visits.proofs.MendKeeps.{Leaves, mends, rebuild_begins, resumes, scrub_begins}
+use Rattle.draid_works.specs.Mended.{BeginsMend, PartBy, SyncsWaiting, TurnBy}
 
 module _ {R A S : Type 0} (rack : racks.Ghosts R) (area : areas.Ghosts A) (last : S → ℕ → Option (Shard R A)) (went : S → ℕ → Shard R A → Shard R A → S → Type 0) (shared : Bool) (owns : ℕ → Bool) (geometry : Geometry) (Keeps : S → Uber A → S → Uber A → Type 0)
     (same : (a : S) (u : Uber A) → Keeps a u a u) (on : (a b c : S) (u v w : Uber A) → Keeps a u b v → Keeps b v c w → Keeps a u c w)
@@ -25,7 +25,11 @@ module _ {R A S : Type 0} (rack : racks.Ghosts R) (area : areas.Ghosts A) (last 
   begins Rebuild limit result a b u it = rebuild_begins rack area last went shared owns (SyncsWaiting rack area last went shared owns geometry.props.metaslabs) geometry Keeps same on hold sync limit result a b u it
   begins Heal limit result a b u it = scrub_begins rack area last went shared owns (SyncsWaiting rack area last went shared owns geometry.props.metaslabs) geometry Keeps same on hold sync limit result a b u it
 
-  pub mends_keeps : (kind : PassKind) (limit : Option ℕ) (result : Result Mended MendFault) (a b : S) (u v : Uber A) → MendsThrough rack area last went shared owns geometry kind limit a u result b v → Keeps a u b v
-  mends_keeps kind limit result a b u v (inl (it, mid, new, starts, rest)) =
-      on a mid b u u v (begins kind limit (Ok it) a mid u starts) (mends rack area last went shared owns (SyncsWaiting rack area last went shared owns geometry.props.metaslabs) geometry Keeps same on hold sync it new (Some result) mid b u v rest)
-  mends_keeps kind limit result a b u v (inr (why, is, starts, at)) = subst (Keeps a u b) (sym at) (begins kind limit (Err why) a b u starts)
+  pub part_keeps : (inside : Bool) (old new : Mending) (result : Result Mended MendFault) (a b : S) (u v : Uber A) → PartBy rack area last went shared owns geometry inside a u old (Some result) b v new → Keeps a u b v
+  part_keeps false old new result a b u v it = mends rack area last went shared owns (SyncsWaiting rack area last went shared owns geometry.props.metaslabs) geometry Keeps same on hold sync old new (Some result) a b u v it
+  part_keeps true old new result a b u v it = resumes rack area last went shared owns (SyncsWaiting rack area last went shared owns geometry.props.metaslabs) geometry Keeps same on hold sync old new (Some result) a b u v it
+
+  -- so behind all that is done in a turn of the uberblock
+  pub turn_keeps : (a b : S) (u v : Uber A) → TurnBy rack area last went shared owns geometry a u b v → Keeps a u b v
+  turn_keeps a b u v (inl (kind, limit, result, starts, at)) = subst (Keeps a u b) (sym at) (begins kind limit result a b u starts)
+  turn_keeps a b u v (inr (inside, old, result, new, it)) = part_keeps inside old new result a b u v it

@@ -1,7 +1,6 @@
 -- What a thread needs of some of its own it has behind a rebuild or a scrub that waited.
 use Rattle.std.proofs.Common.{◌≡◌, ◌<◌, ◌+◌, inl, ℕ, Bool, true, false, Option, Some, None, arith}
 use Rattle.std.specs.Prelude.{Result}
-use Rattle.draid_names.specs.declared.pass_kind.PassKind.{PassKind}
 use Rattle.draid_rack.specs.declared.Rack as racks
 use Rattle.draid_area.specs.declared.Area as areas
 use Rattle.draid_spec.specs.declared.layout.Geometry.{Geometry}
@@ -16,14 +15,12 @@ use Rattle.draid_pool.specs.Threads.{HaveLayout, KeepsWhole, all_of}
 use Rattle.draid_pool.specs.declared.fault.SyncFault.{SyncFault}
 use Rattle.draid_pool.specs.declared.fault.Synced.{Synced}
 use Rattle.draid_pool.proofs.SyncWhole.{HasGroup, HasNext, KeepsOwn, KeepsQuiet, beyond_on, quiet_on}
-use Rattle.draid_visits.specs.declared.rebuilding.MendFault.{MendFault}
-use Rattle.draid_visits.specs.declared.rebuilding.Mended.{Mended}
 use Rattle.draid_visits.proofs.MendKeeps.{Leaves}
 use Rattle.draid_lanes.proofs.Behind.{layout_behind, whole_behind}
 use Rattle.draid_lanes.proofs.SyncThrough.{through_next}
-use Rattle.draid_works.specs.Mended.{MendsThrough, SyncsWaiting}
+use Rattle.draid_works.specs.Mended.{SyncsWaiting, TurnBy}
 use Rattle.draid_works.proofs.MendArms.{held_below}
-use Rattle.draid_works.proofs.MendSteps.{mends_keeps}
+use Rattle.draid_works.proofs.MendSteps.{turn_keeps}
 
 -- a hold that leaves blocks and groups is quiet
 pub leaves_quiet : {R A : Type 0} (rack : racks.Ghosts R) (area : areas.Ghosts A) (owns : ℕ → Bool) (x y : Shard R A) → Leaves rack area x y → KeepsQuiet rack owns x y
@@ -66,16 +63,16 @@ module _ {R A S : Type 0} (rack : racks.Ghosts R) (area : areas.Ghosts A) (last 
         (through_next rack area last went shared owns own count (λ s. NoneBeyond count (last s)) (beyond_on rack area last went shared owns count) a b u v result syncs (record { left = beyond; ready = g.ready })).0.left,
       )
 
-  mended_next : (kind : PassKind) (limit : Option ℕ) (result : Result Mended MendFault) (a b : S) (u v : Uber A) → MendsThrough rack area last went shared owns geometry kind limit a u result b v → Goes a u b v
-  mended_next = mends_keeps rack area last went shared owns geometry Goes (λ s w beyond g. ((g, omega arith), beyond)) goes_then hold_goes sync_goes
+  mended_next : (a b : S) (u v : Uber A) → TurnBy rack area last went shared owns geometry a u b v → Goes a u b v
+  mended_next = turn_keeps rack area last went shared owns geometry Goes (λ s w beyond g. ((g, omega arith), beyond)) goes_then hold_goes sync_goes
 
 -- ---- what is whole of some, and the layout
 
-module _ {R A S : Type 0} (rack : racks.Ghosts R) (area : areas.Ghosts A) (last : S → ℕ → Option (Shard R A)) (went : S → ℕ → Shard R A → Shard R A → S → Type 0) (shared : Bool) (owns : ℕ → Bool) (own : owns groups_number ≡ true) (geometry : Geometry) (kind : PassKind) (limit : Option ℕ) (result : Result Mended MendFault)
-    (a b : S) (u v : Uber A) (ready : EachIs geometry.props.metaslabs (ClosesNext rack (group_of (kept_of u) + 1)) (last a)) (beyond : NoneBeyond geometry.props.metaslabs (last a)) (mends : MendsThrough rack area last went shared owns geometry kind limit a u result b v) where
+module _ {R A S : Type 0} (rack : racks.Ghosts R) (area : areas.Ghosts A) (last : S → ℕ → Option (Shard R A)) (went : S → ℕ → Shard R A → Shard R A → S → Type 0) (shared : Bool) (owns : ℕ → Bool) (own : owns groups_number ≡ true) (geometry : Geometry)
+    (a b : S) (u v : Uber A) (ready : EachIs geometry.props.metaslabs (ClosesNext rack (group_of (kept_of u) + 1)) (last a)) (beyond : NoneBeyond geometry.props.metaslabs (last a)) (mends : TurnBy rack area last went shared owns geometry a u b v) where
   goes : (Stays : S → Type 0) (on : (does : Shard R A → Shard R A → Type 0) (x : S) (m : ℕ) (y : S) → m < geometry.props.metaslabs → (h : HeldOnce rack area last went shared owns does x m y) → KeepsOwn rack owns h.before h.after → Stays x → Stays y)
       → HasGroup rack area last went shared owns own geometry.props.metaslabs Stays on a (group_of (kept_of u) + 1) → HasNext rack area last went shared owns own geometry.props.metaslabs Stays on b v (group_of (kept_of u) + 1)
-  goes Stays on g = (mended_next rack area last went shared owns own geometry Stays on kind limit result a b u v mends beyond g).0
+  goes Stays on g = (mended_next rack area last went shared owns own geometry Stays on a b u v mends beyond g).0
 
   pub mended_whole : 0 < geometry.props.metaslabs → (some : ℕ → Bool) → ((n : ℕ) → some n ≡ true → owns n ≡ true) → some groups_number ≡ false → KeepsWhole rack some (all_of some) (last a) (last b)
   mended_whole any some inside = whole_behind rack area last went shared owns own geometry.props.metaslabs a b u v ready beyond goes some inside any

@@ -1,5 +1,5 @@
 -- What a command of a lane did, by its reply, or by an area that failed it.
-use Rattle.std.specs.Prelude.{◌≡◌, ℕ, Bool, true, false, List, Option, Result, Ok, Err, IsErr, length, None}
+use Rattle.std.specs.Prelude.{◌≡◌, ℕ, Bool, true, false, List, Option, Result, Ok, Err, IfOk, IsErr, length, None}
 use Rattle.draid_names.specs.declared.fault.Failed.{Failed}
 use Rattle.draid_names.specs.declared.pass_kind.PassKind.TheVariants.{Heal, Rebuild}
 use Rattle.draid_names.specs.declared.refusal.WriteFault.{WriteFault}
@@ -12,6 +12,7 @@ use Rattle.draid_reply.specs.declared.reply.Reply.{Reply}
 use Rattle.draid_reply.specs.declared.reply.Reply.TheVariants.{Missed, NoMemory, NoSpace, WriteLast, Written}
 use Rattle.draid_session.specs.Choices.{Choices}
 use Rattle.draid_session.specs.Holds.{Hold}
+use Rattle.draid_session.specs.Replies.{IsWithin}
 use Rattle.draid_session.specs.State.{State, Store}
 use Rattle.draid_pool.specs.Carries.{ReplyDoes}
 use Rattle.draid_pool.specs.Says.{IsSyncReply}
@@ -30,9 +31,8 @@ use Rattle.draid_lanes.specs.Told.{SyncLane}
 use Rattle.draid_lanes.specs.Traces.{LaneTold, SawBytes}
 use Rattle.draid_lanes.specs.Waits.{SyncedIn}
 use Rattle.draid_lanes.specs.declared.lane.Lane.{Lane}
-use Rattle.draid_lanes.specs.Failing.{AreaFailedIn}
+use Rattle.draid_lanes.specs.Failing.{AreaFailedLane}
 use Rattle.draid_works.specs.Lanes.{LaneCarries, LaneKnows, LaneKnowsLater, TeachesOwn}
-use Rattle.draid_works.specs.Mended.{MendedIn}
 use Rattle.draid_works.specs.Switched.{SwitchedIn}
 use Rattle.draid_works.specs.Told.{MendLane, SwitchLane}
 use Rattle.draid_works.specs.Waiting.{LooksBut}
@@ -60,15 +60,15 @@ module _ {R A G W : Type 0} (rack : racks.Ghosts R) (area : areas.Ghosts A) wher
   abbrev pub ObjectsDone : Choices → Command → Reply → (old new : Lane R A G W) → Type 0
   ObjectsDone choices command reply old new = DoesOnObjects command reply (λ x. ReplyDoes x choices command reply) old new
 
-  -- ---- the uberblock's turn
+  -- ---- turns of the uberblock
 
-  -- A command that is done in the uberblock's turn had an answer, and the reply is that of the answer. There is none where an area failed in that turn. What the lane has of its own is as it was. Whatever state of the
+  -- A command that is done in turns of the uberblock had an answer, and the reply is that of the answer. There is none where an area failed in the last of them. What the lane has of its own is as it was. Whatever state of the
   -- pool it knew, it knows one that came from that. From the state in which the section began its turns are told so by the answer.
   pub record DoesInTurn {T : Type 0} (IsAnswer did : T → Type 0) (leads : State → T → Store → List Hold → Store → Type 0) (said : Result Reply Failed) (old new : Lane R A G W) : Type 0 where
     pub answer : T
     pub reply_is : IsAnswer answer
     pub done : did answer
-    pub cause : IsErr said → AreaFailedIn rack area old.uber.now old.metaslabs new.metaslabs old.pass new.pass
+    pub cause : IsErr said → AreaFailedLane rack area old new
     pub own : new.own ≡ old.own
     pub knows : (x : State) → LaneKnows rack area old x → LaneKnowsLater rack area new x
     pub told : (x : State) → x.geometry ≡ old.geometry → length x.metaslabs ≡ x.geometry.props.metaslabs → LaneTold rack area x (leads x answer) old new
@@ -86,13 +86,13 @@ module _ {R A G W : Type 0} (rack : racks.Ghosts R) (area : areas.Ghosts A) wher
 
   abbrev pub RebuildDone : Option ℕ → Result Reply Failed → (old new : Lane R A G W) → Type 0
   RebuildDone limit said old new =
-      DoesInTurn (λ (answer : Result Mended MendFault). IsRebuildReply answer said) (λ answer. MendedIn rack area old.geometry Rebuild limit old.uber.now old.metaslabs new.metaslabs answer old.pass new.pass)
+      DoesInTurn (λ (answer : Result Mended MendFault). IsRebuildReply answer said) (λ answer. IfOk answer (λ it. IsWithin limit it.units it.paused))
       (λ x answer. MendLane x Rebuild (SawBytes rack area x new) limit answer) said old new
 
   -- no area fails a scrub
   abbrev pub ScrubDone : Option ℕ → Reply → (old new : Lane R A G W) → Type 0
   ScrubDone limit reply old new =
-      DoesInTurn (λ (answer : Result Mended MendFault). IsScrubReply answer reply) (λ answer. MendedIn rack area old.geometry Heal limit old.uber.now old.metaslabs new.metaslabs answer old.pass new.pass)
+      DoesInTurn (λ (answer : Result Mended MendFault). IsScrubReply answer reply) (λ answer. IfOk answer (λ it. IsWithin limit it.units it.paused))
       (λ x answer. MendLane x Heal (SawBytes rack area x new) limit answer) (Ok reply) old new
 
   -- ---- all commands

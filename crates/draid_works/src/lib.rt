@@ -18,7 +18,7 @@ pub use filling::fill_in_lane;
 pub use freeing::free_through;
 pub use job::LaneCommands;
 pub use lanes::{commit_in_lane, read_in_lane, sum_in_lane};
-pub use mending::{MendWork, rebuild_in_lane, scrub_in_lane};
+pub use mending::{BeginWork, PartWork, rebuild_in_lane, scrub_in_lane};
 pub use switching::{SwitchWork, switch_in_lane};
 pub use telling::{lane_commands_teach, lane_commands_tell};
 pub use writing::write_through;

@@ -1,5 +1,6 @@
 use Rattle.std.proofs.Common.{◌≡◌}
-use Rattle.draid_visits.proofs.LendHolds.{LentSoFar, stripes_from}
+use Rattle.draid_visits.specs.Units.{stripes_from}
+use Rattle.draid_visits.proofs.LendHolds.{LentSoFar}
 use Rattle.draid_visits.proofs.lends.lend_each.Given as goal
 
 abbrev pub invariant-units : goal.invariant-units

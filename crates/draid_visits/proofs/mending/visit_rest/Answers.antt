@@ -1,6 +1,8 @@
 use Rattle.std.proofs.Common.{◌∙◌, None, Some, arith, ap, refl, subst, sym}
 use Rattle.draid_pool.specs.Drifts.{groups_number, passes_number}
+use Rattle.draid_visits.specs.Units.{MayLendOn}
 use Rattle.draid_visits.specs.Visiting.{IsLow, PausesAt}
+use Rattle.draid_visits.specs.declared.mending.Mending.{Mending}
 use Rattle.draid_visits.specs.declared.progress.Visit.TheVariants as visit
 use Rattle.draid_visits.proofs.MendHolds.{may_visit, visited_more, visited_none, visited_past, visited_stop}
 use Rattle.draid_visits.proofs.mending.visit_rest.Goals as goal
@@ -67,6 +69,7 @@ returns-in_default g c =
       left = z.left;
       paused = tt;
       from = λ is. absurd (cc is);
+      on = λ is. absurd (cc is);
       visits = z.visits;
     }
 
@@ -89,6 +92,7 @@ returns-in-Paused g c =
       left = z.left;
       paused = subst (λ end. PausesAt end c.visit.new.progress) c.in-Paused.is e.paused;
       from = λ is. e.from (ap Some c.in-Paused.is);
+      on = λ is. subst (λ k. MayLendOn g.R.Rack k l.metaslab (m.last c.visit.new.metaslabs) c.visit.new.progress) (ap (λ (q : Mending). q.kind) z.same) (e.on (ap Some c.in-Paused.is));
       visits = z.visits;
     }
 
@@ -111,6 +115,7 @@ returns-in-Stopped g c =
       left = z.left;
       paused = tt;
       from = λ is. absurd (cc is);
+      on = λ is. absurd (cc is);
       visits = z.visits;
     }
 
@@ -130,5 +135,6 @@ returns g c =
       left = z.left;
       paused = tt;
       from = λ is. absurd (cc is);
+      on = λ is. absurd (cc is);
       visits = (z.many, (let is = z.is in omega (arith, end, is)), z.visited);
     }

@@ -3,7 +3,8 @@ use Rattle.draid_pool.specs.Drifts.{groups_number, passes_number}
 use Rattle.draid_visits.specs.Units.{LendsBy}
 use Rattle.draid_visits.specs.Visits.{RunsBy}
 use Rattle.draid_visits.proofs.Kept.{low_upto}
-use Rattle.draid_visits.proofs.VisitEnds.{begins_at, from_begins, left_begins, low_begins}
+use Rattle.draid_visits.proofs.LendHolds.{low_from}
+use Rattle.draid_visits.proofs.VisitEnds.{begins_at, from_begins, left_begins, low_begins, some_paused}
 use Rattle.draid_visits.proofs.VisitsStay.{lends_may, whole_then}
 use Rattle.draid_visits.proofs.visits.run.Goals as goal
 
@@ -27,7 +28,7 @@ lend_each-requires g c =
       own = ap (λ owns. owns groups_number) e.owns ∙ c.requires.own;
       passes = ap (λ owns. owns passes_number) e.owns ∙ c.requires.passes;
       may = e.lends (ap Some c.in-Some-Ok.field-0-is);
-      low = low_begins c.args.geometry.now c.args.metaslab c.args.stripe was at begins c.args.metaslab c.requires.low;
+      low = low_from g.R.Rack c.args.kind c.args.metaslab (g.M.Metaslabs.last c.make_run.new.metaslabs) at (e.lends (ap Some c.in-Some-Ok.field-0-is)) (low_begins c.args.geometry.now c.args.metaslab c.args.stripe was at begins c.args.metaslab c.requires.low);
     }
 
 pub returns-in-Some-Ok : goal.returns-in-Some-Ok
@@ -56,6 +57,7 @@ returns-in-Some-Ok g c =
       left = λ limit is. f.left limit (left_begins c.args.geometry.now c.args.metaslab c.args.stripe was at begins limit is);
       paused = f.paused;
       from = λ is. from_begins c.args.geometry.now c.args.metaslab c.args.stripe was at begins c.lend_each.new.progress f.from;
+      on = λ is. f.on (some_paused c.lend_each.result is);
       runs = (
         Some (Ok tt),
         mid,
@@ -81,6 +83,7 @@ returns-in-Some-Err g c =
       left = λ limit is. is;
       paused = tt;
       from = λ is. absurd (cc is);
+      on = λ is. absurd (cc is);
       runs = (
         Some (Err c.in-Some-Err.why),
         new,
@@ -105,5 +108,6 @@ returns-in-None g c =
       left = λ limit is. is;
       paused = tt;
       from = λ is. absurd (cc is);
+      on = λ is. absurd (cc is);
       runs = (None, new, e.runs, (refl, refl));
     }

@@ -51,6 +51,7 @@ returns-in-At g c =
       left = f.left;
       paused = f.paused;
       from = f.from;
+      on = f.on;
       visits = record {
         start = begun.At c.in-At.stripe;
         mid = mid;
@@ -77,6 +78,7 @@ returns-in-Nothing g c =
       left = λ limit is. is;
       paused = tt;
       from = λ is. absurd (cc is);
+      on = λ is. absurd (cc is);
       visits = record { start = begun.Nothing; mid = new; begins = e.begins; behind = (refl, refl, refl) };
     }
 
@@ -98,5 +100,6 @@ returns-in-Stopped g c =
       left = λ limit is. is;
       paused = tt;
       from = λ is. absurd (cc is);
+      on = λ is. absurd (cc is);
       visits = record { start = begun.Stopped c.in-Stopped.why; mid = new; begins = e.begins; behind = (refl, refl, refl, refl) };
     }

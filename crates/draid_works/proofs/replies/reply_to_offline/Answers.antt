@@ -1,4 +1,4 @@
-use Rattle.std.proofs.Common.{true}
+use Rattle.std.proofs.Common.{true, refl}
 use Rattle.draid_works.proofs.Done.{offline_fits, switch_broke}
 use Rattle.draid_works.proofs.replies.reply_to_offline.Goals as goal
 
@@ -14,7 +14,7 @@ returns g c =
         answer = did.result.1;
         reply_is = is;
         done = (did.ensures.switches, did.ensures.leaf);
-        cause = λ err. did.ensures.cause (switch_broke c.args.leaf true did.result.1 said is err);
+        cause = λ err. record { mid = c.args.lane; same = record { turns = refl; owns = refl; uber = refl; geometry = refl }; failed = did.ensures.cause (switch_broke c.args.leaf true did.result.1 said is err) };
         own = did.ensures.own;
         knows = did.ensures.knows;
         told = did.ensures.told;

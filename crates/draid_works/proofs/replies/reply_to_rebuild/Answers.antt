@@ -7,12 +7,12 @@ returns g c =
     let said = c.reply_of_rebuild-reply.result in
     let is = c.reply_of_rebuild-reply.ensures in
     record {
-      leaves = record { whole = did.ensures.whole; same = did.ensures.same; numbers = did.ensures.mends.numbers };
+      leaves = record { whole = did.ensures.whole; same = did.ensures.same; numbers = did.ensures.numbers };
       fits = rebuild_fits c.args.limit did.result.1 said is did.ensures.within;
       done = record {
         answer = did.result.1;
         reply_is = is;
-        done = did.ensures.mends;
+        done = did.ensures.within;
         cause = λ err. did.ensures.cause (rebuild_broke did.result.1 said is err);
         own = did.ensures.own;
         knows = did.ensures.knows;

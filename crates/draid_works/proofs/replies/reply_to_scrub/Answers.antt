@@ -7,7 +7,7 @@ returns g c =
     let reply = c.reply_of_scrub-reply.result in
     let is = c.reply_of_scrub-reply.ensures in
     record {
-      leaves = record { whole = did.ensures.whole; same = did.ensures.same; numbers = did.ensures.mends.numbers };
+      leaves = record { whole = did.ensures.whole; same = did.ensures.same; numbers = did.ensures.numbers };
       fits = scrub_fits c.args.limit did.result.1 reply is did.ensures.within;
-      done = record { answer = did.result.1; reply_is = is; done = did.ensures.mends; cause = λ err. absurd (cc err); own = did.ensures.own; knows = did.ensures.knows; told = did.ensures.told };
+      done = record { answer = did.result.1; reply_is = is; done = did.ensures.within; cause = λ err. absurd (cc err); own = did.ensures.own; knows = did.ensures.knows; told = did.ensures.told };
     }

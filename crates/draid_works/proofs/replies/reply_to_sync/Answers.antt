@@ -1,3 +1,4 @@
+use Rattle.std.proofs.Common.{refl}
 use Rattle.draid_works.proofs.Done.{sync_broke, sync_fits}
 use Rattle.draid_works.proofs.replies.reply_to_sync.Goals as goal
 
@@ -13,7 +14,7 @@ returns g c =
         answer = did.result.1;
         reply_is = is;
         done = did.ensures.syncs;
-        cause = λ err. did.ensures.cause (sync_broke did.result.1 said is err);
+        cause = λ err. record { mid = c.args.lane; same = record { turns = refl; owns = refl; uber = refl; geometry = refl }; failed = did.ensures.cause (sync_broke did.result.1 said is err) };
         own = did.ensures.own;
         knows = did.ensures.knows;
         told = did.ensures.told;
