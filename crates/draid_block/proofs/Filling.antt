@@ -1,15 +1,15 @@
 -- The columns that the code fills are those of the block, and they give the block back.
-use Rattle.std.proofs.Common.{slice_index, ◌≡◌, ◌⊎◌, ℕ, zero, suc, ◌+◌, ◌-◌, ◌*◌, ◌/◌, ◌%◌, ◌<◌, ◌≤◌, List, [], ◌++◌, length, take, drop, replicate, min, arith, refl, sym, ◌∙◌, ap, inl, inr, add-one, length-append, length-take, length-drop}
+use Rattle.std.proofs.Common.{slice_index, ◌≡◌, ◌⊎◌, ℕ, zero, suc, ◌+◌, ◌-◌, ◌*◌, ◌/◌, ◌%◌, ◌<◌, ◌≤◌, List, [], ◌∷◌, ◌++◌, length, take, drop, replicate, min, arith, refl, sym, ◌∙◌, ap, inl, inr, add-one, length-append, length-take, length-drop}
 use Rattle.std.specs.Prelude.{◌==◌, nat_lt, slice_set, if◌then◌else◌}
 use Rattle.std.proofs.lemmas.Bool.{cases_lt}
 use Rattle.std.proofs.lemmas.Bool.Decides.{nat_tests}
 use Rattle.std.proofs.lemmas.Grind.{div_ceil_times}
-use Rattle.std.proofs.lemmas.List.{length-replicate, take_all, drop_all, take_min, take_at, take-append-le, drop-append-le, take-replicate, drop-replicate, take-take, drop-drop, get_or-set_same, get_or-set_other, get_or-replicate}
+use Rattle.std.proofs.lemmas.List.{length-replicate, take_all, drop_all, take_min, take_at, take-append-le, drop-append-le, take-replicate, drop-replicate, take-take, drop-drop, get_or_append_left, get_or_push}
 use Rattle.std.proofs.Math.Nat.{mul-le-mul_right, div-add-mod, add-mul, suc-mul, mod-lt}
 use Rattle.std.proofs.Math.Seq.{take-append-add, drop-append-add, take-add}
 use Rattle.sha2.specs.Sha256.{sha256}
 use Rattle.draid_gf.specs.Field.{IsByte}
-use Rattle.draid_parity.specs.Columns.{IsStripe, IsEncoded, column_at, written}
+use Rattle.draid_parity.specs.Columns.{IsStripe, IsEncoded, StripeValue, column_at}
 use Rattle.draid_block.specs.Columns.{Cut, sectors_of, stripes_of, full_columns, sectors_in, sectors_before, data_column, filled}
 use Rattle.draid_block.specs.Blocks.{IsBlock, block_value, bytes_of, column_len, sectors_upto, stripe_of}
 use Rattle.draid_block.proofs.Parts.{sectors_few, sized_sector}
@@ -26,15 +26,6 @@ rest_is m rest = elim (cases_lt (length rest) m) [
 
 pub length-filled : (n : ℕ) (bytes : List ℕ) → length bytes ≤ n → length (filled n bytes) ≡ n
 length-filled n bytes h = omega (arith, length-append bytes (replicate (n - length bytes) 0), length-replicate {A = ℕ} (n - length bytes) 0)
-
-pub written_is : (n m : ℕ) (rest part column new : List ℕ) → part ≡ take (min m (length rest)) rest → column ≡ replicate n 0
-    → new ≡ part ++ drop (length part) column → m ≤ n → written column new ≡ filled n (take m rest)
-written_is n m rest part column new p c e few =
-    let front : part ≡ take m rest = p ∙ part_is m rest in
-    let short : length (take m rest) ≤ n = omega (arith, length-take m rest) in
-    let whole : new ≡ filled n (take m rest) = e ∙ rw (front, c, drop-replicate {X = ℕ} (length (take m rest)) n 0) refl in
-    let long : length column ≡ n = ap length c ∙ length-replicate n 0 in
-    rw (long, whole) (take_at (filled n (take m rest)) _ n (length-filled n (take m rest) short))
 
 pub part_short : (cut : Cut) (len i : ℕ) → sectors_in cut len i * cut.sector ≤ column_len cut len
 unfolding column_len
@@ -54,30 +45,26 @@ rest_more cut w rest after i r a =
     rw (add-one, add-mul (sectors_before cut (length w) i) (sectors_in cut (length w) i) cut.sector)
     (a ∙ rest_is _ rest ∙ rw r (drop-drop _ _ w))
 
-pub written_more : (cut : Cut) (w : List ℕ) (columns : List (List ℕ)) (new : List ℕ) (i : ℕ) → cut.parity + i < length columns → new ≡ data_column cut w i
+-- the column that is made of the next part
+pub added_column : (cut : Cut) (w rest part : List ℕ) (i end n : ℕ) → n ≡ column_len cut (length w) → rest ≡ drop (sectors_before cut (length w) i * cut.sector) w
+    → end ≡ min (sectors_in cut (length w) i * cut.sector) (length rest) → part ≡ take end rest → filled n part ≡ data_column cut w i
+added_column cut w rest part i end n long r e p =
+    let front : part ≡ take (sectors_in cut (length w) i * cut.sector) rest = p ∙ ap (λ m. take m rest) e ∙ part_is (sectors_in cut (length w) i * cut.sector) rest in
+    rw (long, front, r) (sym (column_filled cut w i))
+
+pub added_more : (cut : Cut) (w : List ℕ) (columns : List (List ℕ)) (new : List ℕ) (i : ℕ) → length columns ≡ cut.parity + i → new ≡ data_column cut w i
     → ((k : ℕ) → k < i → column_at columns (cut.parity + k) ≡ data_column cut w k)
-    → (k : ℕ) → k < i + 1 → column_at (slice_set columns (cut.parity + i) new) (cut.parity + k) ≡ data_column cut w k
-written_more cut w columns new i there is before k below = elim (cases_lt k i) [
-  | inl lt ↦ get_or-set_other columns (cut.parity + i) (cut.parity + k) new [] (λ same. omega arith) ∙ before k lt
+    → (k : ℕ) → k < i + 1 → column_at (columns ++ new ∷ []) (cut.parity + k) ≡ data_column cut w k
+added_more cut w columns new i many is before k below = elim (cases_lt k i) [
+  | inl lt ↦ get_or_append_left columns (new ∷ []) [] (cut.parity + k) (omega (arith, many)) ∙ before k lt
   | inr ge ↦
       let same : k ≡ i = omega arith in
-      rw same (get_or-set_same columns (cut.parity + i) new [] there ∙ is)
+      rw same (get_or_push columns new [] (cut.parity + i) many ∙ is)
 ]
 
-pub zero_more : (parity : ℕ) (columns : List (List ℕ)) (new zeros : List ℕ) (i n : ℕ)
-    → ((k : ℕ) → i ≤ k → k < n → column_at columns (parity + k) ≡ zeros)
-    → (k : ℕ) → i + 1 ≤ k → k < n → column_at (slice_set columns (parity + i) new) (parity + k) ≡ zeros
-zero_more parity columns new zeros i n before k above below =
-    get_or-set_other columns (parity + i) (parity + k) new [] (λ same. omega arith) ∙ before k (omega arith) below
-
--- the column that the code makes of a column of zero bytes
-pub one_column : (cut : Cut) (w rest part column new : List ℕ) (i end : ℕ) → rest ≡ drop (sectors_before cut (length w) i * cut.sector) w
-    → end ≡ min (sectors_in cut (length w) i * cut.sector) (length rest) → part ≡ take end rest
-    → column ≡ replicate (column_len cut (length w)) 0 → new ≡ part ++ drop (length part) column → written column new ≡ data_column cut w i
-one_column cut w rest part column new i end r e p c n =
-    written_is (column_len cut (length w)) (sectors_in cut (length w) i * cut.sector) rest part column new (p ∙ ap (λ m. take m rest) e) c n
-    (part_short cut (length w) i)
-    ∙ rw r (sym (column_filled cut w i))
+-- a stripe that has the sizes of a block's
+pub is_stripe_of : (cut : Cut) (len : ℕ) (s : StripeValue) → s.parity ≡ cut.parity → s.ndata ≡ cut.ndata → s.len ≡ column_len cut len → s ≡ stripe_of cut len s.columns
+is_stripe_of cut len s parity ndata long = λ j. record { parity = parity j; ndata = ndata j; len = long j; columns = s.columns }
 
 -- ---- the sectors that the data columns hold are as many as the block has
 share : (q r i : ℕ) → (if r == 0 then q + min 1 r else if nat_lt i r then q + min 1 r else q + min 1 r - 1) ≡ q + (if nat_lt i r then 1 else 0)
@@ -174,10 +161,6 @@ is_block cut w columns stripes digest bytes data_some sector some short stripe e
       bytes = bytes;
       columns = record { stripe = stripe; sectors = columns_are; codewords = encoded };
     })
-
--- ---- a stripe of zero bytes
-pub zero_columns : (parity ndata len k : ℕ) → k < ndata → column_at (replicate (parity + ndata) (replicate len 0)) (parity + k) ≡ replicate len 0
-zero_columns parity ndata len k below = get_or-replicate (parity + ndata) (parity + k) (replicate len 0) [] (omega arith)
 
 pub nothing_before : (cut : Cut) (w : List ℕ) → w ≡ drop (sectors_before cut (length w) 0 * cut.sector) w
 unfolding sectors_before

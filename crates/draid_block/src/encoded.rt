@@ -1,15 +1,15 @@
 //! A block over the stripes of any geometry.
-ghost use Rattle.std.specs.Prelude.{◌≡◌, ◌<◌, ◌≤◌, ◌+◌, ◌++◌, ℕ, IfOk, length, drop, slice_index};
+ghost use Rattle.std.specs.Prelude.{◌≡◌, ◌<◌, ◌≤◌, ◌+◌, ℕ, IfOk, length, slice_index};
 ghost use Rattle.draid_gf.specs.Field.{IsByte};
 ghost use Rattle.sha2.specs.Sha256.{sha256};
 ghost use Rattle.draid_spec.specs.Geometry.{IsGeometry};
-ghost use Rattle.draid_parity.specs.Columns.{column_at, zero_stripe};
+ghost use Rattle.draid_parity.specs.Columns.{column_at};
 ghost use Rattle.draid_block.specs.Columns.{stripes_of, data_column};
-ghost use Rattle.draid_block.specs.Blocks.{AreColumns, column_len, columns_of, cut_of};
+ghost use Rattle.draid_block.specs.Blocks.{AreColumns, column_len, columns_of, cut_of, stripe_of};
 
 use crate::shape::{column_bytes, part_bytes, stripes_for};
 use draid_names::{LONGEST_BLOCK, NoMemory};
-use draid_parity::Stripe;
+use draid_parity::{Begun, Stripe};
 use draid_spec::Geometry;
 use sha2::{Digest, Sha256};
 use std::alloc::Global;
@@ -35,34 +35,25 @@ impl Model for Encoded {
     ghost invariant = { λ e. IsBlock (block_value e.sector e.len e.stripe) e.len e.stripes e.digest };
 }
 
-/// Writes the bytes over the front of a column.
-fn write_front(column: &mut [u8], bytes: &[u8])
-    requires { length bytes.now ≤ length column.old }
-    ensures after { column.new ≡ bytes.now ++ drop (length bytes.now) column.old }
-    ensures len { length column.new ≡ length column.old }
-{
-    column[..bytes.len()].copy_from_slice(bytes);
-}
-
-/// Writes the sectors of a block to the data columns of a stripe of zero bytes.
-fn fill_columns(stripe: &mut Stripe, geometry: &Geometry, bytes: &[u8])
+/// The stripe that has the sectors of a block in its data columns, and zero bytes in its parity columns.
+fn cut_columns(alloc: Global, geometry: &Geometry, bytes: &[u8]) -> Result<Stripe, NoMemory>
     requires geometry { IsGeometry geometry.now }
     requires short { length bytes.now ≤ LONGEST_BLOCK }
-    requires zero { stripe.old ≡ zero_stripe geometry.now.spec.parity geometry.now.spec.ndata
-        (column_len (cut_of geometry.now) (length bytes.now)) }
-    ensures shape { stripe.new ≡ record stripe.old { columns = stripe.new.columns } }
-    ensures sectors { (i : ℕ) → i < geometry.now.spec.ndata
-        → column_at stripe.new.columns (geometry.now.spec.parity + i)
-        ≡ data_column (cut_of geometry.now) bytes.now i }
+    ensures shape { IfOk result (λ stripe. stripe ≡ stripe_of (cut_of geometry.now) (length bytes.now) stripe.columns) }
+    ensures sectors { IfOk result (λ stripe. (i : ℕ) → i < geometry.now.spec.ndata
+        → column_at stripe.columns (geometry.now.spec.parity + i)
+        ≡ data_column (cut_of geometry.now) bytes.now i) }
 {
     let len = bytes.len() as u32;
+    let mut begun = Begun::new(alloc, geometry.spec.parity, column_bytes(geometry, len))?;
     let mut rest = bytes;
     for i in 0..geometry.spec.ndata {
         let end = part_bytes(geometry, len, i).min(rest.len());
         let (part, after) = rest.split_at(end);
-        write_front(stripe.column_mut(geometry.spec.parity + i), part);
+        begun.add(alloc, part)?;
         rest = after;
     }
+    Ok(begun.stripe())
 }
 
 impl Encoded {
@@ -93,13 +84,7 @@ impl Encoded {
         ensures columns { IfOk result (λ e. AreColumns e.cut e.bytes e.columns) }
     {
         let len = bytes.len() as u32;
-        let mut stripe = Stripe::new(
-            alloc,
-            geometry.spec.parity,
-            geometry.spec.ndata,
-            column_bytes(geometry, len),
-        )?;
-        fill_columns(&mut stripe, geometry, bytes);
+        let mut stripe = cut_columns(alloc, geometry, bytes)?;
         stripe.encode();
         Ok(Encoded {
             stripe,

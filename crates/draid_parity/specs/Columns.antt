@@ -1,5 +1,5 @@
 -- Stripes as columns of bytes: the parity columns P, Q and R first, then the data columns.
-use Rattle.std.specs.Prelude.{◌≡◌, ℕ, Bool, zero, suc, ◌+◌, ◌*◌, ◌<◌, ◌≤◌, List, [], ◌++◌, length, take, drop, replicate, map, slice_index, slice_index_or, slice_set, bit_xor, Contains, count_by, if◌then◌else◌, nat_le, ◌==◌}
+use Rattle.std.specs.Prelude.{◌≡◌, ℕ, Bool, zero, suc, ◌+◌, ◌-◌, ◌*◌, ◌<◌, ◌≤◌, List, [], ◌∷◌, ◌++◌, length, take, drop, replicate, map, slice_index, slice_index_or, slice_set, bit_xor, Contains, count_by, if◌then◌else◌, nat_le, ◌==◌}
 use Rattle.std.specs.List.{list_any}
 use Rattle.draid_gf.specs.Field.{IsByte}
 use Rattle.draid_parity.specs.Codeword.{IsCodeword, parity_sum}
@@ -100,6 +100,26 @@ pub record IsSolution (missing : List ℕ) (old : StripeValue) (new : List (List
 -- a stripe of zero bytes
 abbrev pub zero_stripe : ℕ → ℕ → ℕ → StripeValue
 zero_stripe parity ndata len = record { parity = parity; ndata = ndata; len = len; columns = replicate (parity + ndata) (replicate len 0) }
+
+-- the columns of a stripe so far: parity columns, and as many data columns as there are behind them
+abbrev pub begun_of : ℕ → ℕ → List (List ℕ) → StripeValue
+begun_of parity len columns = record { parity = parity; ndata = length columns - parity; len = len; columns = columns }
+
+-- a stripe that may lack data columns
+pub record IsBegun (s : StripeValue) : Type 0 where
+  pub some_parity : 1 ≤ s.parity
+  pub parity_range : s.parity ≤ 3
+  pub data_range : s.ndata ≤ 255
+  pub count : length s.columns ≡ s.parity + s.ndata
+  pub columns : AreColumns s.len s.columns
+
+-- zero parity columns and no data
+abbrev pub begun_stripe : ℕ → ℕ → StripeValue
+begun_stripe parity len = record { parity = parity; ndata = 0; len = len; columns = replicate parity (replicate len 0) }
+
+-- a data column more, which begins with these bytes
+abbrev pub with_data : StripeValue → List ℕ → StripeValue
+with_data s bytes = record s { ndata = s.ndata + 1; columns = s.columns ++ (bytes ++ replicate (s.len - length bytes) 0) ∷ [] }
 
 -- the stripe with what was written to its column i, which keeps its length
 abbrev pub with_column : StripeValue → ℕ → List ℕ → StripeValue

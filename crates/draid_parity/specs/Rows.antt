@@ -67,6 +67,11 @@ pub record SolvesPair (k l e f node between over_first over_second : ℕ) : Type
 abbrev pub second_part : ℕ → ℕ → ℕ → ℕ → ℕ
 second_part node between s t = field_product between (bit_xor t (field_product node s))
 
+-- sums k and l of the first so many data columns, in n rows from one on
+pub record AreTwoSums (n at parity k l : ℕ) (columns : List (List ℕ)) (many : ℕ) (first second : List ℕ) : Type 0 where
+  pub low : HasLanes n first (λ j. weighted_sum (2 ^ k) (take many (byte_row (at + j) (drop parity columns))))
+  pub high : HasLanes n second (λ j. weighted_sum (2 ^ l) (take many (byte_row (at + j) (drop parity columns))))
+
 -- P, Q and R of the first so many data columns, in n rows from one on
 pub record AreSums (n at : ℕ) (columns : List (List ℕ)) (many : ℕ) (first second third : List ℕ) : Type 0 where
   pub p : HasLanes n first (λ j. weighted_sum (2 ^ 0) (take many (byte_row (at + j) (drop 3 columns))))

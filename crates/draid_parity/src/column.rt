@@ -1,5 +1,5 @@
 //! One column of a stripe.
-ghost use Rattle.std.specs.Prelude.{◌≡◌, ℕ, ◌+◌, ◌<◌, ◌≤◌, ◌^◌, List, [], bit_xor, length, slice_index, replicate, IfOk};
+ghost use Rattle.std.specs.Prelude.{◌≡◌, ℕ, ◌+◌, ◌-◌, ◌++◌, ◌<◌, ◌≤◌, ◌^◌, List, [], bit_xor, length, slice_index, replicate, IfOk};
 ghost use Rattle.std.specs.Borrow.{sem};
 ghost use Rattle.draid_parity.specs.Lending.{LendsBytes};
 ghost use Rattle.std.specs.Simd.Lanes.{put_chunk};
@@ -32,6 +32,17 @@ impl Column {
         Ok(Column {
             bytes: vec![in alloc; 0; len]?,
         })
+    }
+
+    /// These bytes, and zero bytes up to `len`.
+    pub fn of(alloc: Global, len: usize, bytes: &[u8]) -> Result<Column, AllocError>
+        requires { length bytes.now ≤ len }
+        ensures { IfOk result (λ c. c ≡ bytes.now ++ replicate (len - length bytes.now) 0) }
+    {
+        let mut column = Vec::with_capacity(alloc, len)?;
+        column.extend_from_slice(bytes)?;
+        column.resize(len, 0)?;
+        Ok(Column { bytes: column })
     }
 
     pub fn as_slice(&self) -> &[u8]

@@ -1,10 +1,10 @@
 //! The sums P, Q and R of the data columns, for neighbouring rows at once.
-ghost use Rattle.std.specs.Prelude.{◌≡◌, ℕ, ◌+◌, ◌-◌, ◌^◌, ◌<◌, ◌≤◌, bit_xor, drop, length, take};
+ghost use Rattle.std.specs.Prelude.{◌≡◌, ℕ, ◌+◌, ◌-◌, ◌^◌, ◌<◌, ◌≤◌, bit_xor, drop, length};
 ghost use Rattle.draid_gf.specs.Field.{field_product, IsByte};
 ghost use Rattle.draid_gf.specs.Lanes.{HasLanes};
-ghost use Rattle.draid_parity.specs.Codeword.{parity_sum, weighted_sum};
+ghost use Rattle.draid_parity.specs.Codeword.{parity_sum};
 ghost use Rattle.draid_parity.specs.Columns.{byte_row, column_at};
-ghost use Rattle.draid_parity.specs.Rows.{AreSums};
+ghost use Rattle.draid_parity.specs.Rows.{AreSums, AreTwoSums};
 
 use crate::column::Column;
 use crate::rows::Rows;
@@ -54,50 +54,97 @@ pub fn two_sums<V: Rows>(columns: &[Column], parity: usize, at: usize, k: u32, l
     ensures second { HasLanes V.COUNT (V.bytes result.1)
         (λ j. parity_sum l (byte_row (at + j) (drop parity columns.now))) }
 {
-    let (first, second, i) = paired_sums::<V>(columns, parity, at, k, l);
-    if i < columns.len() {
-        let row = columns[i].rows(at);
-        (horner(first, k, row), horner(second, l, row))
-    } else {
-        (first, second)
+    let (sums, i) = two_by_fours::<V>(columns, parity, at, k, l);
+    match columns.len() - i {
+        0 => sums,
+        1 => one_to_two(columns, parity, at, k, l, i, sums),
+        2 => two_to_two(columns, parity, at, k, l, i, sums),
+        _ => {
+            let sums = two_to_two(columns, parity, at, k, l, i, sums);
+            one_to_two(columns, parity, at, k, l, i + 2, sums)
+        }
     }
 }
 
-// The same of all data columns, or all but the last, and how many columns were read: two a round.
+// The same of the first data column and then four a round, and how many columns were read.
 #[inline(always)]
-fn paired_sums<V: Rows>(
+fn two_by_fours<V: Rows>(
     columns: &[Column],
     parity: usize,
     at: usize,
     k: u32,
     l: u32,
-) -> (V, V, usize)
+) -> ((V, V), usize)
     requires kind { k < 3 }
     requires other { l < 3 }
     requires some { parity < length columns.now }
     requires inside { (i : ℕ) → i < length columns.now
         → at + V.COUNT ≤ length (column_at columns.now i) }
-    ensures first { HasLanes V.COUNT (V.bytes result.0) (λ j. weighted_sum (2 ^ k)
-        (take (result.2 - parity) (byte_row (at + j) (drop parity columns.now)))) }
-    ensures second { HasLanes V.COUNT (V.bytes result.1) (λ j. weighted_sum (2 ^ l)
-        (take (result.2 - parity) (byte_row (at + j) (drop parity columns.now)))) }
-    ensures some { parity < result.2 }
-    ensures inside { result.2 ≤ length columns.now }
-    ensures past { length columns.now ≤ result.2 + 1 }
+    ensures sums { AreTwoSums V.COUNT at parity k l columns.now (result.1 - parity)
+        (V.bytes result.0.0) (V.bytes result.0.1) }
+    ensures some { parity < result.1 }
+    ensures inside { result.1 ≤ length columns.now }
+    ensures rest { length columns.now < result.1 + 4 }
 {
-    let mut first = columns[parity].rows::<V>(at);
-    let mut second = first;
+    let row = columns[parity].rows::<V>(at);
+    let mut sums = (row, row);
     let mut i = parity + 1;
-    'pairs: while columns.len() - i >= 2 {
-        let row = columns[i].rows(at);
-        first = horner(first, k, row);
-        second = horner(second, l, row);
-        let row = columns[i + 1].rows(at);
-        first = horner(first, k, row);
-        second = horner(second, l, row);
-        i += 2;
+    'fours: while columns.len() - i >= 4 {
+        sums = two_to_two(columns, parity, at, k, l, i, sums);
+        sums = two_to_two(columns, parity, at, k, l, i + 2, sums);
+        i += 4;
     }
-    (first, second, i)
+    (sums, i)
+}
+
+// Sums `k` and `l` of the data columns before `i`, with columns `i` and `i + 1`.
+#[inline(always)]
+fn two_to_two<V: Rows>(
+    columns: &[Column],
+    parity: usize,
+    at: usize,
+    k: u32,
+    l: u32,
+    i: usize,
+    sums: (V, V),
+) -> (V, V)
+    requires kind { k < 3 }
+    requires other { l < 3 }
+    requires data { parity ≤ i }
+    requires there { i + 1 < length columns.now }
+    requires inside { (i : ℕ) → i < length columns.now
+        → at + V.COUNT ≤ length (column_at columns.now i) }
+    requires sums { AreTwoSums V.COUNT at parity k l columns.now (i - parity) (V.bytes sums.0) (V.bytes sums.1) }
+    ensures { AreTwoSums V.COUNT at parity k l columns.now (i + 2 - parity) (V.bytes result.0) (V.bytes result.1) }
+{
+    let sums = one_to_two(columns, parity, at, k, l, i, sums);
+    one_to_two(columns, parity, at, k, l, i + 1, sums)
+}
+
+// Sums `k` and `l` of the data columns before `i`, with column `i`.
+#[inline(always)]
+fn one_to_two<V: Rows>(
+    columns: &[Column],
+    parity: usize,
+    at: usize,
+    k: u32,
+    l: u32,
+    i: usize,
+    sums: (V, V),
+) -> (V, V)
+    requires kind { k < 3 }
+    requires other { l < 3 }
+    requires data { parity ≤ i }
+    requires there { i < length columns.now }
+    requires inside { (i : ℕ) → i < length columns.now
+        → at + V.COUNT ≤ length (column_at columns.now i) }
+    requires sums { AreTwoSums V.COUNT at parity k l columns.now (i - parity) (V.bytes sums.0) (V.bytes sums.1) }
+    ensures { AreTwoSums V.COUNT at parity k l columns.now (i + 1 - parity) (V.bytes result.0) (V.bytes result.1) }
+{
+    let row = columns[i].rows(at);
+    let first = horner(sums.0, k, row);
+    let second = horner(sums.1, l, row);
+    (first, second)
 }
 
 /// P, Q and R.

@@ -2,6 +2,7 @@
 //! `vdev_raidz.c`): P, Q and R are sums of the data bytes in the field of 256 elements.
 #![tactic(auto)]
 
+mod begun;
 mod column;
 mod encode;
 mod fused;
@@ -13,4 +14,5 @@ mod stripe;
 mod sums;
 mod triple;
 
+pub use begun::Begun;
 pub use stripe::Stripe;

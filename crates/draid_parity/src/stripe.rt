@@ -15,10 +15,10 @@ use std::marker::Model;
 /// data columns.
 #[derive(Drop)]
 pub struct Stripe {
-    parity: u32,
-    ndata: u32,
-    len: u32,
-    columns: Vec<Column>,
+    pub(crate) parity: u32,
+    pub(crate) ndata: u32,
+    pub(crate) len: u32,
+    pub(crate) columns: Vec<Column>,
 }
 
 impl Model for Stripe {

@@ -23,7 +23,7 @@ abbrev pub left_from : Option ℕ → ℕ
 left_from None = 0
 left_from (Some next) = 2 ^ 64 - next + 1
 
-length-left_by : (rule : CrashRule) (len : ℕ) (was written : List ℕ) → length was ≡ len → length written ≡ len → length (left_by rule was written) ≡ len
+pub length-left_by : (rule : CrashRule) (len : ℕ) (was written : List ℕ) → length was ≡ len → length written ≡ len → length (left_by rule was written) ≡ len
 length-left_by Old len was written a b = a
 length-left_by New len was written a b = b
 length-left_by Torn len was written a b = length-map written (λ n. 255 - n) ∙ b

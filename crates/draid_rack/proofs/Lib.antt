@@ -2,6 +2,8 @@ pub mod Counted
 pub mod Crashes
 pub mod Flushed
 pub mod Moments
+pub mod OneSector
+pub mod RowLemmas
 pub mod Shapes
 pub mod Softly
 pub mod Sound

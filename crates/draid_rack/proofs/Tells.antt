@@ -11,14 +11,14 @@ use Rattle.draid_rack.specs.Rack.{Lands, adds, complement, damages, drops, flush
 use Rattle.draid_names.specs.Clocks.{tick}
 
 -- a sector below the number of sectors is there
-has_row : (rows : List Sector) (s : ℕ) → s < length rows → (x : View) × (option_map view_of (slice_get rows s) ≡ Some x)
-has_row [] s h = absurd (omega arith)
-has_row (row ∷ rows) zero h = (view_of row, refl)
-has_row (row ∷ rows) (suc s) h = has_row rows s (omega arith)
+has_row : (v : Sector → View) (rows : List Sector) (s : ℕ) → s < length rows → (x : View) × (option_map v (slice_get rows s) ≡ Some x)
+has_row v [] s h = absurd (omega arith)
+has_row v (row ∷ rows) zero h = (v row, refl)
+has_row v (row ∷ rows) (suc s) h = has_row v rows s (omega arith)
 
 has_in : (leaf : Option Leaf) (s : ℕ) → MatchOption (sectors_in leaf) ⊥ (λ n. s < n) → (x : View) × (view_in leaf s ≡ Some x)
 has_in None s h = absurd h
-has_in (Some leaf) s h = has_row leaf.sectors.items s h
+has_in (Some leaf) s h = has_row (view_of leaf.rows s) leaf.sectors.items s h
 
 pub there_at : (leaves : BTreeMap ℕ Leaf) (l s : ℕ) → MatchOption (sectors_in (leaf_at leaves l)) ⊥ (λ k. s < k) → IsSome (view_at leaves l s)
 there_at leaves l s there = let r = has_in (leaf_at leaves l) s there in rw r.1 refl

@@ -7,7 +7,7 @@ use Rattle.draid_rack.specs.Rack.{Shape, Told}
 
 -- what is known of a sector of a leaf, where both are there
 abbrev pub view_in : Option Leaf → ℕ → Option View
-view_in leaf s = option_map view_of (option_and_then (λ (x : Leaf). slice_get x.sectors.items s) leaf)
+view_in leaf s = option_and_then (λ (x : Leaf). option_map (view_of x.rows s) (slice_get x.sectors.items s)) leaf
 
 -- what is told of a sector. One that isn't there reads nothing, is neither soft nor harmed, and has clock 0
 abbrev pub bytes_of : Option View → Option (List ℕ)

@@ -1,7 +1,9 @@
+pub mod Buffers
 pub mod Leaves
 pub mod Memory
 pub mod Moments
 pub mod Rack
+pub mod Rows
 pub mod Sectors
 pub mod Shaped
 pub mod Soft

@@ -1,4 +1,4 @@
-use Rattle.std.specs.Prelude.{◌≡◌, ◌<◌, ◌≤◌, ⊤, ◌==◌, ◌&&◌, ◌+◌, ◌-◌, ◌^◌, ℕ, Bool, true, false, List, Option, Some, None, Result, MatchOption, OnOk, OnErr, option_map, unwrap_or, length, map, replicate, nat_lt, if◌then◌else◌}
+use Rattle.std.specs.Prelude.{◌≡◌, ◌<◌, ◌≤◌, ⊤, ◌==◌, ◌&&◌, ◌-◌, ℕ, Bool, true, false, List, Option, Some, None, Result, MatchOption, OnOk, OnErr, option_map, unwrap_or, length, map, replicate, nat_lt, if◌then◌else◌}
 use Rattle.std.specs.List.{list_any}
 use Rattle.draid_names.specs.Clocks.{tick}
 use Rattle.draid_names.specs.Faults.{Rose}

@@ -1,7 +1,9 @@
 use Rattle.std.specs.Prelude.{◌≡◌, ◌==◌, ◌&&◌, ℕ, Bool, true, false, List, length, replicate, if◌then◌else◌}
 use Rattle.draid_faults.specs.Crash.{complement_of, left_by}
 use Rattle.draid_faults.specs.declared.crash.CrashRule.{CrashRule}
+use Rattle.draid_rack.specs.declared.rows.Rows.{Rows}
 use Rattle.draid_rack.specs.declared.sector.Sector.{Sector}
+use Rattle.draid_rack.specs.Rows.{row_in}
 
 -- What is known of a sector: what it reads, what it read at its leaf's last flush, whether it is soft
 -- (written since), whether it is harmed, and the rack's clock at its last change.
@@ -12,10 +14,11 @@ pub record View : Type 0 where
   pub harmed : Bool
   pub since : ℕ
 
-abbrev pub view_of : Sector → View
-view_of sector = record {
-  bytes = sector.bytes.items;
-  kept = if sector.soft then sector.flushed.items else sector.bytes.items;
+-- what is known of a sector of this number, by the rows of its leaf
+abbrev pub view_of : Rows → ℕ → Sector → View
+view_of rows s sector = record {
+  bytes = row_in rows sector.second s;
+  kept = if sector.soft then row_in rows (if sector.second then false else true) s else row_in rows sector.second s;
   soft = sector.soft;
   harmed = sector.harmed;
   since = sector.changed;

@@ -18,16 +18,16 @@ below_first n len = let e : nat_lt 0 (suc n) ≡ true = grind (arith, nat_tests)
 below_more : (k n len : ℕ) → (if nat_lt k n then Some len else None) ≡ (if nat_lt (suc k) (suc n) then Some len else None)
 below_more k n len = let e : nat_lt (suc k) (suc n) ≡ nat_lt k n = grind (arith, nat_tests) in rw e refl
 
-of_rows : (len : ℕ) (rows : List Sector) (k : ℕ) → ((x : View) → option_map view_of (slice_get rows k) ≡ Some x → IsLong len x)
-    → option_map length (bytes_of (option_map view_of (slice_get rows k))) ≡ (if nat_lt k (length rows) then Some len else None)
-of_rows len [] k all = below_none k len
-of_rows len (row ∷ rows) zero all = ap Some (all (view_of row) refl).bytes ∙ below_first (length rows) len
-of_rows len (row ∷ rows) (suc k) all = of_rows len rows k all ∙ below_more k (length rows) len
+of_rows : (len : ℕ) (v : Sector → View) (rows : List Sector) (k : ℕ) → ((x : View) → option_map v (slice_get rows k) ≡ Some x → IsLong len x)
+    → option_map length (bytes_of (option_map v (slice_get rows k))) ≡ (if nat_lt k (length rows) then Some len else None)
+of_rows len v [] k all = below_none k len
+of_rows len v (row ∷ rows) zero all = ap Some (all (v row) refl).bytes ∙ below_first (length rows) len
+of_rows len v (row ∷ rows) (suc k) all = of_rows len v rows k all ∙ below_more k (length rows) len
 
 of_leaf : (len : ℕ) (leaf : Option Leaf) (s : ℕ) → ((x : View) → view_in leaf s ≡ Some x → IsLong len x)
     → option_map length (bytes_of (view_in leaf s)) ≡ (if unwrap_or (option_map (λ n. nat_lt s n) (sectors_in leaf)) false then Some len else None)
 of_leaf len None s all = refl
-of_leaf len (Some leaf) s all = of_rows len leaf.sectors.items s all
+of_leaf len (Some leaf) s all = of_rows len (view_of leaf.rows s) leaf.sectors.items s all
 
 -- what is told of sectors of one length is of the rack's shape
 pub shaped_by : (len : ℕ) (leaves : BTreeMap ℕ Leaf) (clock : ℕ) → AreLong len leaves → IsOfShape (shape_by len leaves) (told_of (view_at leaves) clock)

@@ -23,7 +23,7 @@ pub(crate) fn read_sector(leaves: &BTreeMap<u64, Leaf>, leaf: u64, sector: u64, 
     ensures { bytes_of (view_at leaves.now leaf sector) ≡ Some into.new }
 {
     if let Some(place) = leaves.get(&leaf) {
-        into.copy_from_slice(place.sectors[sector as usize].bytes.as_slice());
+        place.read(sector, into);
     }
 }
 

@@ -8,6 +8,7 @@ mod leaf;
 mod leaves;
 mod memory;
 mod rack;
+mod rows;
 mod sector;
 
 pub use draid_names::DeviceFault;

@@ -1,7 +1,7 @@
 use Rattle.std.proofs.Common.{rules, ◌≡◌, ℕ, ◌<◌, ◌+◌, ◌∙◌, List, length, arith, ap, sym, subst}
 use Rattle.std.specs.Prelude.{slice_index}
 use Rattle.draid_gf.specs.Field.{IsByte}
-use Rattle.draid_parity.specs.Columns.{StripeValue, IsStripe, IsEncoded, column_at, zero_stripe}
+use Rattle.draid_parity.specs.Columns.{StripeValue, IsStripe, IsEncoded, column_at}
 use Rattle.draid_block.specs.Columns.{data_column}
 use Rattle.draid_block.specs.Blocks.{IsBlock, block_value, cut_of, stripe_of}
 use Rattle.draid_block.proofs.Filling.{is_block, bytes_are}
@@ -11,17 +11,13 @@ use Rattle.draid_block.proofs.encoded.Encoded.with_digest.Goals as goal
 shape : (c : goal.After-stripes_for) → c.encode.new.self ≡ stripe_of (cut_of c.args.geometry.now) (length c.args.bytes.now) c.encode.new.self.columns
 shape c =
     let columns : List (List ℕ) = c.encode.new.self.columns in
-    let filled : List (List ℕ) = c.fill_columns.new.stripe.columns in
-    c.encode.ensures.shape
-    ∙ ap (λ (s : StripeValue). record s { columns = columns }) (c.fill_columns.ensures.shape ∙ ap (λ (s : StripeValue). record s { columns = filled }) c.in_ok-stripe.ensures)
-    ∙ ap (λ (n : ℕ). record (zero_stripe c.args.geometry.now.spec.parity c.args.geometry.now.spec.ndata n) { columns = columns }) c.column_bytes.ensures
+    c.encode.ensures.shape ∙ ap (λ (s : StripeValue). record s { columns = columns }) c.in_ok-stripe.ensures.shape
 
 columns_are : (c : goal.After-stripes_for) (k : ℕ) → k < c.args.geometry.now.spec.ndata
     → column_at c.encode.new.self.columns (c.args.geometry.now.spec.parity + k) ≡ data_column (cut_of c.args.geometry.now) c.args.bytes.now k
 columns_are c k below =
-    let parity : c.fill_columns.new.stripe.parity ≡ c.args.geometry.now.spec.parity =
-    ap (λ (s : StripeValue). s.parity) (c.fill_columns.ensures.shape) ∙ ap (λ (s : StripeValue). s.parity) c.in_ok-stripe.ensures in
-    c.encode.ensures.stays (c.args.geometry.now.spec.parity + k) (omega arith) ∙ c.fill_columns.ensures.sectors k below
+    let parity = ap (λ (s : StripeValue). s.parity) c.in_ok-stripe.ensures.shape in
+    c.encode.ensures.stays (c.args.geometry.now.spec.parity + k) (omega (arith, parity)) ∙ c.in_ok-stripe.ensures.sectors k below
 
 pub invariant_of-result : goal.invariant_of-result
 invariant_of-result c =

@@ -17,3 +17,7 @@ pub returns-clause-moments : goal.returns-clause-moments
 returns-clause-moments c =
     elapsed_change (settles c.args.leaf c.args.sector) (goes_settles c.args.leaf c.args.sector) (told_of (view_at c.args.self.now.leaves) c.args.self.now.clock) _
     (told_settled c.args.leaf c.args.sector c.args.self.now.clock _ c.args.self.now.leaves c.settle_sector.new.leaves c.later-self.ensures c.settle_sector.ensures)
+
+pub returns-clause-told : goal.returns-clause-told
+returns-clause-told c =
+    told_settled c.args.leaf c.args.sector c.args.self.now.clock _ c.args.self.now.leaves c.settle_sector.new.leaves c.later-self.ensures c.settle_sector.ensures
