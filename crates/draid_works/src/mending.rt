@@ -318,7 +318,7 @@ fn part_in_lane<'a, 'b, R: Rack, A: Area, G: Gate, W: Wait>(
     ensures whole { IsWholeLane R.Rack A.Area result.0 }
     ensures same { IsSameLane lane.entry result.0 }
     ensures own { result.0.own ≡ lane.entry.own }
-    ensures part { PartIn R.Rack A.Area lane.entry.geometry inside lane.entry.uber.now lane.entry.metaslabs mending.entry result.0.metaslabs result.2 result.1 lane.entry.pass result.0.pass }
+    ensures part { PartIn R.Rack A.Area lane.entry.geometry inside lane.entry.uber.now lane.entry.metaslabs mending result.0.metaslabs result.2 result.1 lane.entry.pass result.0.pass }
 {
     let work = PartWork {
         geometry: lane.geometry,
